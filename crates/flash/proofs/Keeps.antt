@@ -21,12 +21,13 @@ block-other p b c new ne = getD-set-other (p .blocks) b c new noBlock ne
 pub sound-put : (p : Part) (b : ℕ) (new : Block)
     → b < length (p .blocks) → SoundBlock (p .perBlock) (p .endurance) new → Sound p → Sound (withBlock p b new)
 sound-put p b new h s w = record {
-    each = λ c l. ⊎-elim
+  each = λ c l. ⊎-elim
       (λ e. subst (SoundBlock (p .perBlock) (p .endurance)) (sym (ap (block (withBlock p b new)) e ∙ block-put p b new h)) s)
       (λ ne. subst (SoundBlock (p .perBlock) (p .endurance)) (sym (block-other p b c new ne))
-        (w .each c (omega (arith, length-set (p .blocks) b new))))
+      (w .each c (omega (arith, length-set (p .blocks) b new))))
       (cases-eq c b);
-    limit = w .limit }
+  limit = w .limit;
+}
 
 -- A page of 256 bytes more in a block that has room.
 pub sound-appended : (p : Part) (b : ℕ) (x : List ℕ)
@@ -34,15 +35,16 @@ pub sound-appended : (p : Part) (b : ℕ) (x : List ℕ)
 sound-appended p b x h room full w =
     let old = w .each b h in let xs = block p b .pages in let n = length-push (block p b .pages) x in
     sound-put p b _ h
-      (record {
-        room = omega arith;
-        wornAtMost = old .wornAtMost;
-        whole = λ k l. ⊎-elim
+    (record {
+      room = omega arith;
+      wornAtMost = old .wornAtMost;
+      whole = λ k l. ⊎-elim
           (λ e. ap length (ap (λ j. getD (xs ++ x ∷ []) j []) e ∙ getD-push xs x [] (length xs) refl) ∙ full)
           (λ ne. let inside : k < length xs = omega arith in
-            ap length (getD-append-left xs (x ∷ []) [] k inside) ∙ old .whole k inside)
-          (cases-eq k (length xs)) })
-      w
+          ap length (getD-append-left xs (x ∷ []) [] k inside) ∙ old .whole k inside)
+          (cases-eq k (length xs));
+    })
+    w
 
 -- An erase of a block that is not worn out.
 pub sound-erased : (p : Part) (b : ℕ)

@@ -11,7 +11,7 @@ use Rattle.flash.specs.Part.{Block, Part, noBlock, block, written, appended, e
 -- Another block in place b: its own wear takes the place of the old one's.
 pub wearOf-set : (per : ℕ) (xs : List Block) (b : ℕ) (new : Block) → b < length xs
     → wearOf per (set xs b new) + (length (getD xs b noBlock .pages) + per * getD xs b noBlock .erases)
-      ≡ wearOf per xs + (length (new .pages) + per * new .erases)
+    ≡ wearOf per xs + (length (new .pages) + per * new .erases)
 wearOf-set per [] b new h = absurd (omega arith)
 wearOf-set per (x ∷ xs) zero new h = omega arith
 wearOf-set per (x ∷ xs) (suc b) new h = let k : b < length xs = omega arith in omega (arith, wearOf-set per xs b new k)

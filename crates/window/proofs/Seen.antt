@@ -35,10 +35,10 @@ module _ (p : Part) (hidden count b c : ℕ) (shown : b < length (windowOf p hid
       → windowOf (withBlock p c new) hidden count ≡ withBlock (windowOf p hidden count) b new′
   seen-put new new′ same =
       ap (λ (xs : List Block). record { blocks = xs; perBlock = p .perBlock; endurance = p .endurance })
-        (ap (λ i. take count (drop hidden (set (p .blocks) i new))) is
-        ∙ ap (take count) (drop-set-add hidden (p .blocks) b new)
-        ∙ take-set-lt count (drop hidden (p .blocks)) b new seen-below
-        ∙ ap (set (take count (drop hidden (p .blocks))) b) same)
+      (ap (λ i. take count (drop hidden (set (p .blocks) i new))) is
+      ∙ ap (take count) (drop-set-add hidden (p .blocks) b new)
+      ∙ take-set-lt count (drop hidden (p .blocks)) b new seen-below
+      ∙ ap (set (take count (drop hidden (p .blocks))) b) same)
 
   pub seen-program : (k : ℕ) (r : Answer) → r ≡ programAnswer p c k → r ≡ programAnswer (windowOf p hidden count) b k
   seen-program k r e =
@@ -49,7 +49,7 @@ module _ (p : Part) (hidden count b c : ℕ) (shown : b < length (windowOf p hid
   seen-appended q x r e =
       ap (λ y. windowOf y hidden count) e
       ∙ either-by (λ y. windowOf y hidden count) r (appended p c x) p _ _
-        (seen-put _ _ (ap (λ (y : Block). record { pages = y .pages ++ x ∷ []; erases = y .erases }) (sym seen-block))) refl
+      (seen-put _ _ (ap (λ (y : Block). record { pages = y .pages ++ x ∷ []; erases = y .erases }) (sym seen-block))) refl
 
   pub seen-read : (k : ℕ) (r : Answer) → r ≡ readAnswer p c k → r ≡ readAnswer (windowOf p hidden count) b k
   seen-read k r e =
@@ -68,14 +68,15 @@ module _ (p : Part) (hidden count b c : ℕ) (shown : b < length (windowOf p hid
   seen-erased q r e =
       ap (λ y. windowOf y hidden count) e
       ∙ either-by (λ y. windowOf y hidden count) r (erased p c) p _ _
-        (seen-put _ _ (ap (λ (y : Block). record { pages = []; erases = y .erases + 1 }) (sym seen-block))) refl
+      (seen-put _ _ (ap (λ (y : Block). record { pages = []; erases = y .erases + 1 }) (sym seen-block))) refl
 
 -- A window onto a well-formed part is well-formed.
 pub seen-sound : (p : Part) (hidden count : ℕ) → Sound p → Sound (windowOf p hidden count)
 seen-sound p hidden count s = record {
-    each = λ b h. subst (SoundBlock (p .perBlock) (p .endurance)) (sym (seen-block p hidden count b (hidden + b) h refl))
+  each = λ b h. subst (SoundBlock (p .perBlock) (p .endurance)) (sym (seen-block p hidden count b (hidden + b) h refl))
       (s .each (hidden + b) (seen-inside p hidden count b (hidden + b) h refl));
-    limit = s .limit }
+  limit = s .limit;
+}
 
 -- A block that is not shown counts as having no page and no erase.
 pub unseen-block : (p : Part) (hidden count b : ℕ) → length (windowOf p hidden count .blocks) ≤ b

@@ -15,4 +15,4 @@ windowOf p hidden count =
 abbrev pub Beneath : Part → ℕ → ℕ → ℕ → Option ℕ → Type 0
 Beneath p hidden count b r =
     Cases r (length (windowOf p hidden count .blocks) ≤ b)
-      (λ c. (b < length (windowOf p hidden count .blocks)) × (c ≡ hidden + b))
+    (λ c. (b < length (windowOf p hidden count .blocks)) × (c ≡ hidden + b))

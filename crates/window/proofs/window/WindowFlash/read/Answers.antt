@@ -11,4 +11,6 @@ returns-in-Some g c =
     record {
       answer = seen-read p (w .hidden) (w .count) _ _ (s .0) (s .1) _ _ (c .read .ensures .answer);
       buffer = seen-content p (w .hidden) (w .count) _ _ (s .0) (s .1) (c .args .page) (c .args .buffer .now) _ (c .read .result) (c .read .ensures .buffer);
-      after = ap (λ q. windowOf q (w .hidden) (w .count)) (c .read .ensures .after) }
+      after = ap (λ q. windowOf q (w .hidden) (w .count)) (c .read .ensures .after);
+      below = c .read .ensures .after;
+    }

@@ -1,0 +1,4 @@
+pub mod Sample
+pub mod Fletcher
+pub mod Sums
+pub mod Examples

@@ -1,0 +1,14 @@
+pub mod Numbers
+pub mod State
+pub mod Tables
+pub mod Store
+pub mod Calls
+pub mod Making
+pub mod Stands
+pub mod Image
+pub mod Runs
+pub mod Promise
+pub mod PlainMap
+pub mod Theorems
+pub mod Recorded
+pub mod Examples
