@@ -21,7 +21,7 @@ pub struct Sums {
 
 impl Sums {
     // The sums after the words that stand from `start` to `end`. A reduction at every word is slow, so there is one at the end.
-    pub fn after_block(self, bytes: &[u8], start: usize, end: usize) -> Sums
+    pub(crate) fn after_block(self, bytes: &[u8], start: usize, end: usize) -> Sums
         requires reduced { ⌜ Reduced self ⌝ }
         requires within { ⌜ start ≤ end ⌝ ∗ ⌜ end ≤ length (now bytes) ⌝ }
         requires groups { ⌜ (end - start) % 8 ≡ 0 ⌝ }
@@ -50,7 +50,7 @@ impl Sums {
     }
 
     // The sums after the words that stand from `start` to `end`, reduced at every word: for the few that fill no group.
-    pub fn after_words(self, bytes: &[u8], start: usize, end: usize) -> Sums
+    pub(crate) fn after_words(self, bytes: &[u8], start: usize, end: usize) -> Sums
         requires reduced { ⌜ Reduced self ⌝ }
         requires within { ⌜ start ≤ end ⌝ ∗ ⌜ end ≤ length (now bytes) ⌝ }
         requires words { ⌜ (end - start) % 2 ≡ 0 ⌝ }
@@ -67,7 +67,7 @@ impl Sums {
     }
 
     // The sums after one more word.
-    pub fn after_word(self, word: u16) -> Sums
+    pub(crate) fn after_word(self, word: u16) -> Sums
         requires reduced { ⌜ Reduced self ⌝ }
         ensures reduced { λ r. ⌜ Reduced r ⌝ }
         ensures low { λ r. ⌜ r .a ≡ (self .a + word) % 65535 ⌝ }
@@ -79,7 +79,7 @@ impl Sums {
     }
 
     // The second sum is the high half of the number.
-    pub fn number(self) -> u32
+    pub(crate) fn number(self) -> u32
         requires reduced { ⌜ Reduced self ⌝ }
         ensures value { λ r. ⌜ r ≡ self .b * 65536 + self .a ⌝ }
     {

@@ -22,7 +22,7 @@ pub impl Order for Worn as ByErases {
 }
 
 // The block with its erase count.
-pub fn wear_of<F: Flash>(part: &F, block: usize) -> Worn
+pub(crate) fn wear_of<F: Flash>(part: &F, block: usize) -> Worn
     ensures block { λ r. ⌜ r .block ≡ block ⌝ }
     ensures erases { λ r. ⌜ r .erases ≡ erases (F·Flash .shows (now (part .entry))) block ⌝ }
 {

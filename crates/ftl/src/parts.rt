@@ -10,7 +10,7 @@ use std::io;
 
 const TARIFFS: u8 = 3;
 
-pub fn demonstrate<F: Flash>(rt: &LibcRuntime, part: &mut F) -> io::Result<()> {
+pub(crate) fn demonstrate<F: Flash>(rt: &LibcRuntime, part: &mut F) -> io::Result<()> {
     println!(
         rt,
         "A window of blocks 1 to 4 over a pair of memory parts, 2 pages a block."

@@ -8,7 +8,7 @@ use fingerprint::SampleFingerprint;
 use page::equal;
 use std::io;
 
-pub fn demonstrate(rt: &LibcRuntime) -> io::Result<()> {
+pub(crate) fn demonstrate(rt: &LibcRuntime) -> io::Result<()> {
     let zeros = page_beginning(0, 0);
     let full = page_beginning(255, 255);
     let one = page_beginning(1, 0);

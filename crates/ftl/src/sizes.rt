@@ -2,7 +2,7 @@
 use rules::worked_sizes;
 use std::io;
 
-pub fn demonstrate(rt: &LibcRuntime) -> io::Result<()> {
+pub(crate) fn demonstrate(rt: &LibcRuntime) -> io::Result<()> {
     let [too_many, most, one_more, no_room, small, large] = worked_sizes();
     println!(rt, "64 blocks of 64 pages: {too_many}")?;
     println!(rt, "65 blocks of 63 pages, 4031 host pages: {most}")?;

@@ -6,7 +6,7 @@ ghost use Rattle.memory.specs.Layout.{number16, number32};
 ghost use Rattle.memory.specs.Memory.{put};
 
 // The number in two bytes from `at` on, the lowest first.
-pub fn read_u16(bytes: &[u8], at: usize) -> u16
+pub(crate) fn read_u16(bytes: &[u8], at: usize) -> u16
     requires within { ⌜ at + 2 ≤ length (now bytes) ⌝ }
     ensures value { λ r. ⌜ r ≡ number16 (now (bytes .entry)) at ⌝ }
 {
@@ -14,7 +14,7 @@ pub fn read_u16(bytes: &[u8], at: usize) -> u16
 }
 
 // The number in four bytes from `at` on, the lowest first.
-pub fn read_u32(bytes: &[u8], at: usize) -> u32
+pub(crate) fn read_u32(bytes: &[u8], at: usize) -> u32
     requires within { ⌜ at + 4 ≤ length (now bytes) ⌝ }
     ensures value { λ r. ⌜ r ≡ number32 (now (bytes .entry)) at ⌝ }
 {
@@ -22,7 +22,7 @@ pub fn read_u32(bytes: &[u8], at: usize) -> u32
 }
 
 // Writes `new` over the bytes from `at` on.
-pub fn put_bytes(bytes: &mut [u8], at: usize, new: &[u8])
+pub(crate) fn put_bytes(bytes: &mut [u8], at: usize, new: &[u8])
     requires within { ⌜ at + length (now new) ≤ length (now bytes) ⌝ }
     ensures bytes { λ _. ⌜ now (bytes .exit) ≡ put (now (bytes .entry)) at (now (new .entry)) ⌝ }
 {
@@ -31,7 +31,7 @@ pub fn put_bytes(bytes: &mut [u8], at: usize, new: &[u8])
 }
 
 // Writes `value` over `count` bytes from `at` on.
-pub fn fill_bytes(bytes: &mut [u8], at: usize, count: usize, value: u8)
+pub(crate) fn fill_bytes(bytes: &mut [u8], at: usize, count: usize, value: u8)
     requires within { ⌜ at + count ≤ length (now bytes) ⌝ }
     ensures bytes { λ _. ⌜ now (bytes .exit) ≡ put (now (bytes .entry)) at (replicate count value) ⌝ }
 {

@@ -26,21 +26,21 @@ const MOST_BLOCKS: usize = 255;
 const MOST_ENDURANCE: u32 = 1_000_000;
 
 // The pages of a block, by the number asked for.
-pub fn pages_of(given: usize) -> usize
+pub(crate) fn pages_of(given: usize) -> usize
     ensures value { λ r. ⌜ r ≡ pagesOf given ⌝ }
 {
     given.max(1).min(MOST_PAGES)
 }
 
 // The erases that a block endures, by the number asked for.
-pub fn endurance_of(given: u32) -> u32
+pub(crate) fn endurance_of(given: u32) -> u32
     ensures value { λ r. ⌜ r ≡ enduranceOf given ⌝ }
 {
     given.min(MOST_ENDURANCE)
 }
 
 // How many whole records the memory holds, up to the most that count.
-pub fn record_count(bytes: &[u8], pages: usize) -> usize
+pub(crate) fn record_count(bytes: &[u8], pages: usize) -> usize
     requires pages { ⌜ pages ≤ 64 ⌝ }
     ensures value { λ r. ⌜ r ≡ recordCount (now (bytes .entry)) pages ⌝ }
 {
@@ -57,7 +57,7 @@ fn record_at(pages: usize, block: usize) -> usize
 }
 
 // How many pages of the block are written.
-pub fn written(bytes: &[u8], pages: usize, block: usize) -> usize
+pub(crate) fn written(bytes: &[u8], pages: usize, block: usize) -> usize
     requires pages { ⌜ pages ≤ 64 ⌝ }
     requires block { ⌜ block < recordCount (now bytes) pages ⌝ }
     ensures value { λ r. ⌜ r ≡ writtenIn (now (bytes .entry)) pages block ⌝ }
@@ -66,7 +66,7 @@ pub fn written(bytes: &[u8], pages: usize, block: usize) -> usize
 }
 
 // How often the block was erased, as far as it endures.
-pub fn erases(bytes: &[u8], pages: usize, endurance: u32, block: usize) -> u32
+pub(crate) fn erases(bytes: &[u8], pages: usize, endurance: u32, block: usize) -> u32
     requires pages { ⌜ pages ≤ 64 ⌝ }
     requires block { ⌜ block < recordCount (now bytes) pages ⌝ }
     ensures value { λ r. ⌜ r ≡ min (storedErases (now (bytes .entry)) pages block) endurance ⌝ }
@@ -75,7 +75,7 @@ pub fn erases(bytes: &[u8], pages: usize, endurance: u32, block: usize) -> u32
 }
 
 // Copies the bytes of a page.
-pub fn read_page(bytes: &[u8], pages: usize, block: usize, page: usize, buffer: &mut [u8; 256])
+pub(crate) fn read_page(bytes: &[u8], pages: usize, block: usize, page: usize, buffer: &mut [u8; 256])
     requires pages { ⌜ pages ≤ 64 ⌝ }
     requires block { ⌜ block < recordCount (now bytes) pages ⌝ }
     requires page { ⌜ page < pages ⌝ }
@@ -87,7 +87,7 @@ pub fn read_page(bytes: &[u8], pages: usize, block: usize, page: usize, buffer: 
 }
 
 // Writes a page, which becomes the last one that counts as written.
-pub fn write_page(bytes: &mut [u8], pages: usize, block: usize, page: usize, new: &[u8; 256])
+pub(crate) fn write_page(bytes: &mut [u8], pages: usize, block: usize, page: usize, new: &[u8; 256])
     requires pages { ⌜ pages ≤ 64 ⌝ }
     requires block { ⌜ block < recordCount (now bytes) pages ⌝ }
     requires page { ⌜ page < pages ⌝ }
@@ -99,7 +99,7 @@ pub fn write_page(bytes: &mut [u8], pages: usize, block: usize, page: usize, new
 }
 
 // Erases the pages, and counts it.
-pub fn wipe(bytes: &mut [u8], pages: usize, block: usize)
+pub(crate) fn wipe(bytes: &mut [u8], pages: usize, block: usize)
     requires pages { ⌜ pages ≤ 64 ⌝ }
     requires block { ⌜ block < recordCount (now bytes) pages ⌝ }
     requires left { ⌜ storedErases (now bytes) pages block < 1000000 ⌝ }
@@ -113,7 +113,7 @@ pub fn wipe(bytes: &mut [u8], pages: usize, block: usize)
 }
 
 // Makes every record that of a block never written nor erased.
-pub fn format(bytes: &mut [u8], pages: usize)
+pub(crate) fn format(bytes: &mut [u8], pages: usize)
     requires pages { ⌜ pages ≤ 64 ⌝ }
     ensures bytes { λ _. ⌜ now (bytes .exit) ≡ formatted (now (bytes .entry)) pages ⌝ }
 {

@@ -1,34 +1,24 @@
 ghost use mathlib.Core.Path.{_≡_};
 ghost use mathlib.Core.Bool.{true, false};
-ghost use Prim.Native.Nat.{_+_, _≤_};
-ghost use Rattle.page.specs.Same.{Agree, sameBytes};
+ghost use Rattle.page.specs.Same.{sameBytes};
 
-// The bytes that are compared with no branch between them. The compiler turns so many into a few wide comparisons.
-const STRETCH: usize = 32;
+// The bytes that a turn compares, with no branch between them.
+const STRIDE: usize = 4;
 
-// Whether two pages hold the same 256 bytes, each byte at the same place. It stops at the first stretch that differs.
+// Whether two pages hold the same 256 bytes, each byte at the same place. It stops at the first turn that finds a difference.
 pub fn equal(a: &[u8; 256], b: &[u8; 256]) -> bool
     ensures value { λ r. ⌜ r ≡ sameBytes (now (a .entry)) (now (b .entry)) ⌝ }
     ensures same { λ r. ⌜ (r ≡ true → now (a .entry) ≡ now (b .entry)) ⌝ }
     ensures different { λ r. ⌜ (r ≡ false → now (a .entry) ≡ now (b .entry) → ⊥) ⌝ }
 {
-    for stretch in 0..256 / STRETCH {
-        if !equal_stretch(a, b, stretch * STRETCH) {
+    let mut i = 0;
+    while i < 256 {
+        let first = (a[i] == b[i]) & (a[i + 1] == b[i + 1]);
+        let second = (a[i + 2] == b[i + 2]) & (a[i + 3] == b[i + 3]);
+        if !(first & second) {
             return false;
         }
+        i += STRIDE;
     }
     true
-}
-
-// Whether the pages agree in the stretch that begins at `start`.
-fn equal_stretch(a: &[u8; 256], b: &[u8; 256], start: usize) -> bool
-    requires { ⌜ start + 32 ≤ 256 ⌝ }
-    ensures same { λ r. ⌜ (r ≡ true → Agree (now (a .entry)) (now (b .entry)) start (start + 32)) ⌝ }
-    ensures different { λ r. ⌜ (r ≡ false → now (a .entry) ≡ now (b .entry) → ⊥) ⌝ }
-{
-    let mut same = true;
-    for i in start..start + STRETCH {
-        same &= a[i] == b[i];
-    }
-    same
 }

@@ -5,7 +5,7 @@ use flash::Flash;
 use flash::Refusal;
 
 // A refusal's number, or 0 for an accepted call.
-pub fn code(answer: Result<(), Refusal>) -> u8
+pub(crate) fn code(answer: Result<(), Refusal>) -> u8
     ensures value { λ r. ⌜ r ≡ codeOf answer ⌝ }
 {
     match answer {
@@ -16,7 +16,7 @@ pub fn code(answer: Result<(), Refusal>) -> u8
 
 // The answers of a part with `blocks` clean blocks of `pages` pages: a block too far in each call, a page too far, a page out
 // of turn, an unwritten page, and then one page programmed, programmed again and read.
-pub fn answers<F: Flash>(
+pub(crate) fn answers<F: Flash>(
     part: &mut F,
     blocks: usize,
     pages: usize,

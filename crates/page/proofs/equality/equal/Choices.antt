@@ -1,7 +1,11 @@
-use Prim.Native.Nat.{_*_}
+use Prim.Native.Nat.{_-_, _%_, _≤_}
+use mathlib.Core.Path.{_≡_}
 use Rattle.page.specs.Same.{Agree}
 use Rattle.page.proofs.equality.equal.Given as given
 
--- the stretches before this one agree
-abbrev pub Inv-loop-stretch : given.InvT-loop-stretch
-Inv-loop-stretch l = Agree (l .a) (l .b) 0 (l .stretch * 32)
+-- the bytes before the index agree
+abbrev pub Inv-loop-i : given.InvT-loop-i
+Inv-loop-i l = Agree (l .a) (l .b) 0 (l .i) × (l .i % 4 ≡ 0) × (l .i ≤ 256)
+
+abbrev pub μ-loop-i : given.MeasureT-loop-i
+μ-loop-i l = 256 - l .i
