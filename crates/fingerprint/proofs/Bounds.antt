@@ -1,5 +1,5 @@
 -- The numbers of both kinds fit 32 bits.
-use Prim.Native.Nat.{ℕ, zero, suc, _+_, _*_, _^_, _%_, _<_}
+use Prim.Native.Nat.{ℕ, zero, suc, _+_, _^_, _%_, _<_}
 use mathlib.Core.List.{List, [], _∷_}
 use native.Mathlib.Nat.{mod-lt}
 use native.Mathlib.Omega.{arith}

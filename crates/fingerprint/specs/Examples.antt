@@ -1,7 +1,7 @@
 -- Worked examples of both kinds, and the bound of their numbers.
 use Prim.Native.Nat.{ℕ, _^_, _<_}
 use mathlib.Core.Path.{_≡_}
-use mathlib.Core.List.{List, [], _∷_}
+use mathlib.Core.List.{List}
 use lib.ListN.{replicate, set}
 use Rattle.std.specs.shelf.Lists.{All}
 use Rattle.fingerprint.specs.Sample.{sampleOf}

@@ -1,14 +1,11 @@
 -- A part that stands on another answers for its block b as the other does for block c, if the two blocks are alike.
 use Prim.Native.Nat.{ℕ, _≤_, _<_}
-use mathlib.Core.Path.{_≡_, refl, ap, _∙_}
-use mathlib.Core.Bool.{true, false, cond}
-use lib.Dec.{ltb, eqb}
+use mathlib.Core.Path.{_≡_}
+use lib.Dec.{ltb}
 use lib.ListN.{length}
 use borrow.Author.Tests.{lt-ltb, le-ltb}
-use Rattle.std.specs.declared.result.Result.{Result}
 use Rattle.std.specs.declared.result.Result.the-variants.{Ok, Err}
 use Rattle.std.proofs.shelf.Tests.{cond-false}
-use Rattle.flash.specs.declared.refusal.Refusal.{Refusal}
 use Rattle.flash.specs.declared.refusal.Refusal.the-variants.{NoSuchPage}
 use Rattle.flash.specs.Part.{Part, written, erases}
 use Rattle.flash.specs.Answers.{Answer, programAnswer, readAnswer, eraseAnswer, either}

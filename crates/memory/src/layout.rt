@@ -75,7 +75,13 @@ pub(crate) fn erases(bytes: &[u8], pages: usize, endurance: u32, block: usize) -
 }
 
 // Copies the bytes of a page.
-pub(crate) fn read_page(bytes: &[u8], pages: usize, block: usize, page: usize, buffer: &mut [u8; 256])
+pub(crate) fn read_page(
+    bytes: &[u8],
+    pages: usize,
+    block: usize,
+    page: usize,
+    buffer: &mut [u8; 256],
+)
     requires pages { ⌜ pages ≤ 64 ⌝ }
     requires block { ⌜ block < recordCount (now bytes) pages ⌝ }
     requires page { ⌜ page < pages ⌝ }

@@ -8,7 +8,7 @@ use lib.ListN.{length, take}
 use Rattle.std.specs.declared.result.Result.the-variants.{Err}
 use Rattle.flash.specs.declared.refusal.Refusal.the-variants.{WornOut}
 use Rattle.flash.specs.Part.{Block, Part, erases}
-use Rattle.flash.specs.Answers.{Answer, eraseAnswer}
+use Rattle.flash.specs.Answers.{Answer, eraseAnswer, either}
 use Rattle.pair.specs.declared.place.Place.{Place}
 use Rattle.pair.specs.declared.place.Place.the-variants.{First, Second, Nowhere}
 
@@ -45,3 +45,12 @@ Stands p q b Nowhere = length (pairOf p q .blocks) ≤ b
 -- The answer to an erase of block b under an endurance that may be lower than the part's own.
 abbrev pub loweredAnswer : Part → ℕ → ℕ → Answer
 loweredAnswer p b endurance = cond (ltb (erases p b) endurance) (eraseAnswer p b) (Err WornOut)
+
+-- The first part after a call on block b that was answered r, if an accepted call on a block of its own leaves `new`. Only a
+-- block of its own can change it.
+abbrev pub firstAfter : Part → ℕ → Answer → Part → Part
+firstAfter p b r new = cond (ltb b (length (p .blocks))) (either r new p) p
+
+-- .. and the second part q, whose blocks come after those of the first part p.
+abbrev pub secondAfter : Part → Part → ℕ → Answer → Part → Part
+secondAfter p q b r new = cond (ltb b (length (p .blocks))) q (either r new q)

@@ -15,7 +15,11 @@ pub(crate) fn erases_within<F: Flash>(part: &F, block: usize, endurance: u32) ->
 }
 
 // Erases the block, unless it was erased `endurance` times or more.
-pub(crate) fn erase_within<F: Flash>(part: &mut F, block: usize, endurance: u32) -> Result<(), Refusal>
+pub(crate) fn erase_within<F: Flash>(
+    part: &mut F,
+    block: usize,
+    endurance: u32,
+) -> Result<(), Refusal>
     ensures answer { λ r. ⌜ r ≡ loweredAnswer (F·Flash .shows (now (part .entry))) block endurance ⌝ }
     ensures after { λ r. ⌜ F·Flash .shows (now (part .exit)) ≡ either r (erased (F·Flash .shows (now (part .entry))) block) (F·Flash .shows (now (part .entry))) ⌝ }
 {

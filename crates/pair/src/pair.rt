@@ -1,8 +1,10 @@
 // The pair itself. It finds the part that has the block, and lowers both parts to the smaller endurance.
 ghost use mathlib.Core.Path.{_≡_};
+ghost use Prim.Native.Nat.{_-_};
 ghost use lib.ListN.{length};
-ghost use Rattle.flash.specs.Part.{Sound};
-ghost use Rattle.pair.specs.Shown.{pairOf, counted, shownCount, Stands};
+ghost use Rattle.flash.specs.Part.{Sound, content, appended, erased};
+ghost use Rattle.flash.specs.Answers.{programAnswer, readAnswer, eraseAnswer, either};
+ghost use Rattle.pair.specs.Shown.{pairOf, counted, shownCount, Stands, firstAfter, secondAfter};
 use crate::lowered::erase_within;
 use crate::lowered::erases_within;
 use crate::place::Place;
@@ -107,7 +109,13 @@ pub impl<F: Flash, G: Flash> Flash for Pair<F, G> as PairFlash {
         }
     }
 
-    fn program(&mut self, block: usize, page: usize, bytes: &[u8; 256]) -> Result<(), Refusal> {
+    // `first` and `second` say what the two parts show afterwards, also of blocks that the pair does not show: only the one block's part changes.
+    fn program(&mut self, block: usize, page: usize, bytes: &[u8; 256]) -> Result<(), Refusal>
+        ensures answer { λ r. ⌜ r ≡ programAnswer (pairOf (F·Flash .shows (now (self .entry) .first)) (G·Flash .shows (now (self .entry) .second))) block page ⌝ }
+        ensures after { λ r. ⌜ pairOf (F·Flash .shows (now (self .exit) .first)) (G·Flash .shows (now (self .exit) .second)) ≡ either r (appended (pairOf (F·Flash .shows (now (self .entry) .first)) (G·Flash .shows (now (self .entry) .second))) block (now (bytes .entry))) (pairOf (F·Flash .shows (now (self .entry) .first)) (G·Flash .shows (now (self .entry) .second))) ⌝ }
+        ensures first { λ r. ⌜ F·Flash .shows (now (self .exit) .first) ≡ firstAfter (F·Flash .shows (now (self .entry) .first)) block r (appended (F·Flash .shows (now (self .entry) .first)) block (now (bytes .entry))) ⌝ }
+        ensures second { λ r. ⌜ G·Flash .shows (now (self .exit) .second) ≡ secondAfter (F·Flash .shows (now (self .entry) .first)) (G·Flash .shows (now (self .entry) .second)) block r (appended (G·Flash .shows (now (self .entry) .second)) (block - length (F·Flash .shows (now (self .entry) .first) .blocks)) (now (bytes .entry))) ⌝ }
+    {
         match self.place(block) {
             Place::First(under) => self.first.program(under, page, bytes),
             Place::Second(under) => self.second.program(under, page, bytes),
@@ -115,7 +123,13 @@ pub impl<F: Flash, G: Flash> Flash for Pair<F, G> as PairFlash {
         }
     }
 
-    fn read(&mut self, block: usize, page: usize, buffer: &mut [u8; 256]) -> Result<(), Refusal> {
+    fn read(&mut self, block: usize, page: usize, buffer: &mut [u8; 256]) -> Result<(), Refusal>
+        ensures answer { λ r. ⌜ r ≡ readAnswer (pairOf (F·Flash .shows (now (self .entry) .first)) (G·Flash .shows (now (self .entry) .second))) block page ⌝ }
+        ensures buffer { λ r. ⌜ now (buffer .exit) ≡ either r (content (pairOf (F·Flash .shows (now (self .entry) .first)) (G·Flash .shows (now (self .entry) .second))) block page) (now (buffer .entry)) ⌝ }
+        ensures after { λ _. ⌜ pairOf (F·Flash .shows (now (self .exit) .first)) (G·Flash .shows (now (self .exit) .second)) ≡ pairOf (F·Flash .shows (now (self .entry) .first)) (G·Flash .shows (now (self .entry) .second)) ⌝ }
+        ensures first { λ _. ⌜ F·Flash .shows (now (self .exit) .first) ≡ F·Flash .shows (now (self .entry) .first) ⌝ }
+        ensures second { λ _. ⌜ G·Flash .shows (now (self .exit) .second) ≡ G·Flash .shows (now (self .entry) .second) ⌝ }
+    {
         match self.place(block) {
             Place::First(under) => self.first.read(under, page, buffer),
             Place::Second(under) => self.second.read(under, page, buffer),
@@ -123,7 +137,12 @@ pub impl<F: Flash, G: Flash> Flash for Pair<F, G> as PairFlash {
         }
     }
 
-    fn erase(&mut self, block: usize) -> Result<(), Refusal> {
+    fn erase(&mut self, block: usize) -> Result<(), Refusal>
+        ensures answer { λ r. ⌜ r ≡ eraseAnswer (pairOf (F·Flash .shows (now (self .entry) .first)) (G·Flash .shows (now (self .entry) .second))) block ⌝ }
+        ensures after { λ r. ⌜ pairOf (F·Flash .shows (now (self .exit) .first)) (G·Flash .shows (now (self .exit) .second)) ≡ either r (erased (pairOf (F·Flash .shows (now (self .entry) .first)) (G·Flash .shows (now (self .entry) .second))) block) (pairOf (F·Flash .shows (now (self .entry) .first)) (G·Flash .shows (now (self .entry) .second))) ⌝ }
+        ensures first { λ r. ⌜ F·Flash .shows (now (self .exit) .first) ≡ firstAfter (F·Flash .shows (now (self .entry) .first)) block r (erased (F·Flash .shows (now (self .entry) .first)) block) ⌝ }
+        ensures second { λ r. ⌜ G·Flash .shows (now (self .exit) .second) ≡ secondAfter (F·Flash .shows (now (self .entry) .first)) (G·Flash .shows (now (self .entry) .second)) block r (erased (G·Flash .shows (now (self .entry) .second)) (block - length (F·Flash .shows (now (self .entry) .first) .blocks))) ⌝ }
+    {
         let endurance = self.endurance();
         match self.place(block) {
             Place::First(under) => erase_within(&mut self.first, under, endurance),

@@ -1,19 +1,17 @@
 -- The kinds of the blocks after a program and after an erase.
-use Prim.Native.Nat.{ℕ, _+_, _*_, _<_, _≤_}
-use mathlib.Core.Path.{_≡_, refl, sym, ap, subst, _∙_}
-use mathlib.Core.Bool.{Bool, true, false, cond, _&&_}
-use mathlib.Core.List.{List, [], _∷_, _++_}
+use Prim.Native.Nat.{ℕ, _+_, _<_}
+use mathlib.Core.Path.{_≡_, sym, ap, subst, _∙_}
+use mathlib.Core.Bool.{true}
 use mathlib.Core.Logic.{_⊎_, inl, inr, ⊎-elim}
 use native.Mathlib.Omega.{arith}
-use lib.Dec.{eqb, ltb}
+use lib.Dec.{ltb}
 use lib.ListN.{length}
 use Rattle.std.proofs.shelf.Lists.{length-push, length-set}
-use Rattle.std.proofs.shelf.Tests.{cases-eq, cases-lt, cases-bool, eq-eqb, ne-eqb, eqb-true, lt-ltb, le-ltb, ltb-true, and-parts, and-from, both-ways}
-use Rattle.flash.specs.Part.{Block, Part, block, written, erases, withBlock, appended, erased}
+use Rattle.std.proofs.shelf.Tests.{cases-eq, eqb-true, lt-ltb, ltb-true, and-parts, and-from}
+use Rattle.flash.specs.Part.{Block, Part, block, written, appended, erased}
 use Rattle.flash.proofs.Keeps.{block-put, block-other}
 use Rattle.rules.specs.State.{Bytes, State, blockCount, perBlock, isClean, isClosed, isPartWritten}
-use Rattle.rules.specs.Calls.{HasPartWritten, Takes}
-use Rattle.rules.specs.Making.{BlocksStand}
+use Rattle.rules.specs.Calls.{Takes}
 
 -- At most one block is part-written.
 abbrev pub Single : State → Type 0

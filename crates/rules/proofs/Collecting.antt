@@ -1,41 +1,33 @@
 -- A collection keeps what stands, what the host pages hold, and how many flash pages are in use.
-use Prim.Native.Nat.{ℕ, _+_, _-_, _*_, _/_, _%_, _<_, _≤_}
-use mathlib.Core.Path.{_≡_, refl, sym, ap, subst, fun-ext, _∙_}
+use Prim.Native.Nat.{ℕ, _+_, _*_, _/_, _%_, _<_, _≤_}
+use mathlib.Core.Path.{_≡_, refl, sym, ap, subst, _∙_}
 use mathlib.Core.Bool.{Bool, true, false, cond}
-use mathlib.Core.List.{List, [], _∷_, map}
+use mathlib.Core.List.{List, [], _∷_}
 use mathlib.Core.Logic.{_⊎_, inl, inr, ⊎-elim}
-use native.Mathlib.Nat.{div-add-mod', mul-le-mul-right, mul-comm}
+use native.Mathlib.Nat.{div-add-mod', mul-comm}
 use native.Mathlib.Omega.{arith}
-use lib.Dec.{eqb, ltb}
+use lib.Dec.{eqb}
 use lib.ListN.{length}
-use Rattle.std.specs.declared.option.Option.{Option}
-use Rattle.std.specs.declared.option.Option.the-variants.{Some, None}
-use Rattle.std.proofs.shelf.Lists.{length-set, length-map}
-use Rattle.std.proofs.shelf.Tests.{cases-eq, cases-lt, cases-bool, both-ways, eq-eqb, ne-eqb, true≢false}
-use Rattle.std.proofs.shelf.Bits.{div-mul-add, mod-mul-add, div-below, mod-below, mul-add-lt, le-div}
-use Rattle.flash.specs.Part.{Block, Part, Sound, written, erases, appended, erased, wear}
+use Rattle.std.proofs.shelf.Lists.{length-set}
+use Rattle.std.proofs.shelf.Tests.{cases-eq, cases-lt, cases-bool, both-ways, eq-eqb, ne-eqb}
+use Rattle.std.proofs.shelf.Bits.{div-mul-add, mod-below, mul-add-lt, le-div}
+use Rattle.flash.specs.Part.{Block, written, erases, wear}
 use Rattle.flash.proofs.Keeps.{sound-erased, block-other}
 use Rattle.flash.proofs.Wear.{wear-erased}
-use Rattle.rules.specs.State.{Bytes, Entry, State, noPage, tally, blockCount, perBlock, flashPages, hostPages, names, leads, reach, content, inUse, isWritten, isClean, isClosed, inUseAt, liveIn, livePages, held}
-use Rattle.rules.specs.Tables.{nextPage, renamed, movedTo, erasedBlock}
-use Rattle.rules.specs.Store.{entryAt, Offers}
+use Rattle.rules.specs.State.{Bytes, State, noPage, tally, blockCount, perBlock, flashPages, hostPages, names, reach, content, inUse, isWritten, inUseAt, liveIn, livePages, held}
+use Rattle.rules.specs.Tables.{nextPage, movedTo, erasedBlock}
+use Rattle.rules.specs.Store.{Offers}
 use Rattle.rules.specs.Calls.{Takes, Candidate, Victim, below, Moves, Collected}
-use Rattle.rules.specs.Making.{Agree, Agrees}
-use Rattle.rules.specs.Stands.{EntryStands, StoreStands, Stands}
-use Rattle.rules.proofs.Tally.{tally-at, tally-same, one, one-true, one-false}
+use Rattle.rules.specs.Stands.{StoreStands, Stands}
+use Rattle.rules.proofs.Cases.{same-test}
+use Rattle.rules.proofs.Tally.{tally-at, one-true, one-false}
 use Rattle.rules.proofs.Namers.{renamed-cases, written-agrees}
 use Rattle.rules.proofs.Crossing.{name-past}
-use Rattle.rules.proofs.Content.{content-erased, content-written, written-from, written-inside, new-unwritten}
-use Rattle.rules.proofs.Live.{live-from, live-find, live-not, live-written, live-same, reach-named, named-live}
-use Rattle.rules.proofs.Blocks.{Single, takes-room, closed-in, written-other, erased-here, single-erased}
+use Rattle.rules.proofs.Content.{content-erased, content-written, written-from, new-unwritten}
+use Rattle.rules.proofs.Live.{live-from, live-not, live-written, reach-named, named-live}
+use Rattle.rules.proofs.Blocks.{takes-room, closed-in, written-other, erased-here, single-erased}
 use Rattle.rules.proofs.Members.{In, Apart, in-below, below-in, below-apart, length-below}
-use Rattle.rules.proofs.Moving.{Mid, mid, stands, sizes, hosts, some-pages, written-small, fits-same, moved-mid, moved-hosts, moved-blocks, moved-wear, moved-held, moved-live, moved-live-back, moved-offers, new-small}
-
--- Two tests that imply each other are the same.
-pub same-test : (a b : Bool) → (a ≡ true → b ≡ true) → (b ≡ true → a ≡ true) → a ≡ b
-same-test true b f g = sym (f refl)
-same-test false true f g = g refl
-same-test false false f g = refl
+use Rattle.rules.proofs.Moving.{Mid, stands, sizes, hosts, some-pages, fits-same, moved-mid, moved-hosts, moved-blocks, moved-wear, moved-held, moved-live, moved-live-back, moved-offers, new-small}
 
 -- A move takes one page out of use and puts another into use.
 module _ (print : Bytes → ℕ) (s : State) (q b : ℕ) (h : Mid print s) (takes : Takes s b) (live : inUse s q ≡ true) (small : q < noPage) where

@@ -1,22 +1,21 @@
 -- What the flash pages hold after a program and after an erase.
-use Prim.Native.Nat.{ℕ, zero, suc, _+_, _*_, _/_, _%_, _<_, _≤_}
+use Prim.Native.Nat.{ℕ, _+_, _*_, _/_, _%_, _<_}
 use mathlib.Core.Path.{_≡_, refl, sym, ap, subst, _∙_}
-use mathlib.Core.Bool.{Bool, true, false, cond}
+use mathlib.Core.Bool.{true, false}
 use mathlib.Core.List.{List, [], _∷_, _++_}
-use mathlib.Core.Logic.{_⊎_, inl, inr, ⊎-elim}
+use mathlib.Core.Logic.{_⊎_, ⊎-elim}
 use native.Mathlib.Nat.{div-add-mod', mul-comm}
 use native.Mathlib.Omega.{arith}
 use lib.Dec.{ltb}
 use lib.ListN.{length, getD}
-use Rattle.std.specs.declared.option.Option.{Option}
-use Rattle.std.specs.declared.option.Option.the-variants.{Some, None}
+use Rattle.std.specs.declared.option.Option.the-variants.{Some}
 use Rattle.std.specs.Options.{isSome}
 use Rattle.std.specs.Finite.{nth}
 use Rattle.std.proofs.shelf.Maps.{nth-getD, nth-past}
 use Rattle.std.proofs.shelf.Lists.{length-push, getD-append-left, getD-push, getD-past}
 use Rattle.std.proofs.shelf.Tests.{cases-eq, cases-lt, lt-ltb, le-ltb, ltb-true}
-use Rattle.std.proofs.shelf.Bits.{div-mul-add, mod-mul-add, div-below, mod-below, mul-add-lt}
-use Rattle.flash.specs.Part.{Block, Part, Sound, noBlock, block, written, withBlock, appended, erased}
+use Rattle.std.proofs.shelf.Bits.{div-mul-add, mod-mul-add, mod-below, mul-add-lt}
+use Rattle.flash.specs.Part.{Block, Part, Sound, noBlock, block, written, appended, erased}
 use Rattle.flash.proofs.Keeps.{block-put, block-other}
 use Rattle.rules.specs.State.{Bytes, content, isWritten}
 

@@ -1,27 +1,25 @@
 -- Flash pages in use, counted against the contents that the host pages hold.
-use Prim.Native.Nat.{ℕ, zero, suc, _+_, _*_, _<_, _≤_}
+use Prim.Native.Nat.{ℕ, zero, suc, _+_, _<_, _≤_}
 use mathlib.Core.Path.{_≡_, refl, sym, ap, subst, _∙_}
-use mathlib.Core.Bool.{Bool, true, false, cond}
+use mathlib.Core.Bool.{true, cond}
 use mathlib.Core.List.{List, [], _∷_, map}
 use mathlib.Core.Logic.{_⊎_, inl, inr, ⊎-elim}
 use native.Mathlib.Omega.{arith}
-use lib.Dec.{eqb, ltb}
+use lib.Dec.{ltb}
 use lib.ListN.{length}
-use Rattle.std.specs.declared.option.Option.{Option}
 use Rattle.std.specs.declared.option.Option.the-variants.{Some, None}
 use Rattle.std.specs.Options.{valueOr}
 use Rattle.std.specs.Iters.{counting}
 use Rattle.std.proofs.shelf.Lists.{length-map}
-use Rattle.std.proofs.shelf.Tests.{cases-bool, cases-eq, cases-lt, both-ways, lt-ltb, le-ltb, ltb-true, cond-true, cond-false}
-use Rattle.rules.specs.State.{Bytes, State, noPage, tally, flashPages, hostPages, names, reach, content, inUse, isWritten, livePages, held, pageMap}
+use Rattle.std.proofs.shelf.Tests.{cases-bool, cases-eq, lt-ltb, le-ltb, ltb-true, cond-true, cond-false}
+use Rattle.rules.specs.State.{Bytes, State, noPage, flashPages, hostPages, reach, content, inUse, isWritten, livePages, held, pageMap}
 use Rattle.rules.specs.Calls.{Copies}
-use Rattle.rules.specs.Making.{Agrees}
 use Rattle.rules.specs.Promise.{contents, different}
 use Rattle.rules.proofs.Tally.{tally-same}
 use Rattle.rules.proofs.Members.{In}
 use Rattle.rules.proofs.Content.{content-written, written-inside}
 use Rattle.rules.proofs.Live.{live-from, live-find, live-written, reach-named}
-use Rattle.rules.proofs.Collecting.{same-test}
+use Rattle.rules.proofs.Cases.{same-test}
 use Rattle.rules.proofs.Moving.{Mid, sizes, hosts, some-pages}
 use Rattle.rules.proofs.Storing.{content-none}
 use Rattle.rules.proofs.Distinct.{stands-in, distinct, stands-in-from, stands-in-find, distinct-le, tally-distinct, different-le, different-all}

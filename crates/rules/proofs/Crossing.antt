@@ -1,16 +1,16 @@
 -- What the namers hold after a change of the list of words or of the list of entries.
-use Prim.Native.Nat.{ℕ, _+_, _-_, _<_, _≤_}
-use mathlib.Core.Path.{_≡_, refl, sym, ap, subst, _∙_}
-use mathlib.Core.Bool.{Bool, true, false, cond}
+use Prim.Native.Nat.{ℕ, _-_, _<_, _≤_}
+use mathlib.Core.Path.{_≡_, sym, ap, subst, _∙_}
+use mathlib.Core.Bool.{cond}
 use mathlib.Core.List.{List, map}
-use mathlib.Core.Logic.{_⊎_, inl, inr, ⊎-elim}
+use mathlib.Core.Logic.{_⊎_, ⊎-elim}
 use native.Mathlib.Omega.{arith}
-use lib.Dec.{eqb, ltb}
+use lib.Dec.{ltb}
 use lib.ListN.{length, getD, set}
 use Rattle.std.proofs.shelf.Lists.{getD-set-same, getD-set-other, getD-map, getD-past, length-map}
 use Rattle.std.proofs.shelf.Tests.{cases-eq, cases-lt, lt-ltb, le-ltb}
 use Rattle.rules.specs.State.{noPage, name}
-use Rattle.rules.proofs.Namers.{put, put-same, put-other, put-cases}
+use Rattle.rules.proofs.Namers.{put, put-same, put-other}
 
 -- A namer is a word or an entry.
 pub name-word : (words shared : List ℕ) (k : ℕ) → k < 4096 → name words shared k ≡ getD words k noPage

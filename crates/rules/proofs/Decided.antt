@@ -1,35 +1,32 @@
 -- The rules decide every answer.
-use Prim.Native.Nat.{ℕ, _+_, _<_, _≤_}
-use mathlib.Core.Path.{_≡_, refl, sym, ap, subst, _∙_}
-use mathlib.Core.Bool.{Bool, true, false, cond}
+use Prim.Native.Nat.{ℕ}
+use mathlib.Core.Path.{_≡_, refl, sym, ap, _∙_}
+use mathlib.Core.Bool.{cond}
 use mathlib.Core.Logic.{_⊎_, inl, inr, ⊎-elim}
 use native.Mathlib.Nat.{le-antisymm}
 use native.Mathlib.Omega.{arith}
 use lib.Dec.{eqb}
-use lib.ListN.{length}
-use Rattle.std.specs.declared.option.Option.{Option}
-use Rattle.std.specs.declared.option.Option.the-variants.{Some, None}
+use Rattle.std.specs.declared.option.Option.the-variants.{Some}
 use Rattle.std.specs.declared.result.Result.{Result}
 use Rattle.std.specs.declared.result.Result.the-variants.{Ok, Err}
-use Rattle.std.proofs.shelf.Tests.{both-ways}
 use Rattle.rules.specs.declared.refusal.Refusal.{Refusal}
 use Rattle.rules.specs.declared.refusal.Refusal.the-variants.{Geometry, HostPages, WornOut, NoSuchPage, Length, Empty, NothingToCollect, ShortBuffer, ImageLength, BlockCheck, BlockHead, WordRange, FlashDiffers, Contradiction, FlashState, NoMemory}
 use Rattle.rules.specs.declared.kind.Kind.{Kind}
 use Rattle.rules.specs.declared.kind.Kind.the-variants.{Stored, Shared, Unchanged}
 use Rattle.rules.specs.declared.answer.Written.{Written}
 use Rattle.rules.specs.declared.answer.Usage.{Usage}
-use Rattle.rules.specs.declared.answer.Answer.{Answer}
-use Rattle.rules.specs.declared.answer.Answer.the-variants.{Refused, Wrote, Page, Number, Used}
+use Rattle.rules.specs.declared.answer.Answer.the-variants.{Wrote, Page, Number, Used}
 use Rattle.rules.specs.Numbers.{refusalNumber}
-use Rattle.rules.specs.State.{Bytes, State, hostPages, liveIn, livePages, held, pageMap}
-use Rattle.rules.specs.Calls.{Collectable, Candidate, Victim, Ready, Readied, NoneOffered, WritesAs, Writes, Reads, Trims, Collects, Scans, Asks}
+use Rattle.rules.specs.State.{Bytes, State, liveIn, livePages, held, pageMap}
+use Rattle.rules.specs.Calls.{Candidate, Victim, Ready, Readied, NoneOffered, WritesAs, Writes, Reads, Trims, Collects, Scans, Asks}
 use Rattle.rules.specs.Stands.{Stands}
-use Rattle.rules.specs.Runs.{Call, Saves, answerOf, Step}
+use Rattle.rules.specs.Runs.{Saves, answerOf}
 use Rattle.rules.specs.Runs.Call.{write, read, trim, collect, scan, usage, save}
-use Rattle.rules.specs.Promise.{contents, different, isRefusal}
+use Rattle.rules.specs.Promise.{contents, different}
 use Rattle.rules.specs.Theorems.{AnswersDecided}
+use Rattle.rules.proofs.Cases.{some-same, none-some}
 use Rattle.rules.proofs.Moving.{mid}
-use Rattle.rules.proofs.Scanning.{Scanned, merges-scanned}
+use Rattle.rules.proofs.Scanning.{merges-scanned}
 use Rattle.rules.proofs.Counting.{pages-exact}
 use Rattle.rules.proofs.PageMaps.{map-same}
 
@@ -136,12 +133,6 @@ write-same print s n x (Err d) (Err e) t u (is, why) (is′, why′) =
     (⊎-elim (λ y5. absurd (y5 .2 (x3 .2))) (λ y3. refusal-same d e 3 (x3 .0) (y3 .0))) why′))
     why)
 
-some-same : (o : Option Bytes) (x y : Bytes) → o ≡ Some x → o ≡ Some y → x ≡ y
-some-same o x y p q = cc
-
-none-some : (o : Option Bytes) (x : Bytes) → o ≡ None → o ≡ Some x → ⊥
-none-some o x p q = let z : _≡_ {A = ℕ} 0 1 = cc in omega arith
-
 read-not-both : (s : State) (n len : ℕ) (x : Bytes) (e : Refusal) (t u : State) → Reads s n len (Ok x) t → Reads s n len (Err e) u → ⊥
 read-not-both s n len x e t u (is, inside, whole, has) (is′, why) =
     ⊎-elim (λ four. omega (arith, four .1)) (⊎-elim (λ five. five .2 whole) (λ six. none-some (held s n) x (six .3) has)) why
@@ -163,9 +154,9 @@ read-same s n len (Err d) (Err e) t u (is, why) (is′, why′) =
 
 trim-same : (s : State) (n : ℕ) (q r : Result ℕ Refusal) (t u : State) → Trims s n q t → Trims s n r u → q ≡ r
 trim-same s n (Ok a) (Ok b) t u (inside, is, after) (inside′, is′, after′) = ap Ok (is ∙ sym is′)
-trim-same s n (Ok a) (Err e) t u (inside, is, after) (same, four, out) = absurd (omega arith)
-trim-same s n (Err d) (Ok b) t u (same, four, out) (inside, is, after) = absurd (omega arith)
-trim-same s n (Err d) (Err e) t u (same, four, out) (same′, four′, out′) = ap Err (refusal-same d e 4 four four′)
+trim-same s n (Ok a) (Err e) t u (inside, is, after) (same, (four, out)) = absurd (omega arith)
+trim-same s n (Err d) (Ok b) t u (same, (four, out)) (inside, is, after) = absurd (omega arith)
+trim-same s n (Err d) (Err e) t u (same, (four, out)) (same′, (four′, out′)) = ap Err (refusal-same d e 4 four four′)
 
 -- A scan ends with as many pages in use as there are different contents.
 scan-same : (print : Bytes → ℕ) (s : State) (q r : Result ℕ Refusal) (t u : State) → Stands print s → Scans s q t → Scans s r u → q ≡ r

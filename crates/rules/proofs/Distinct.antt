@@ -1,5 +1,5 @@
 -- How many different numbers a list has, and how many different contents they lead to.
-use Prim.Native.Nat.{ℕ, zero, suc, _+_, _<_, _≤_}
+use Prim.Native.Nat.{ℕ, _+_, _<_, _≤_}
 use mathlib.Core.Path.{_≡_, refl, sym, ap, subst, _∙_}
 use mathlib.Core.Bool.{Bool, true, false, cond, _||_}
 use mathlib.Core.List.{List, [], _∷_, map}
@@ -7,14 +7,14 @@ use mathlib.Core.Logic.{_⊎_, inl, inr, ⊎-elim}
 use native.Mathlib.Omega.{arith}
 use lib.Dec.{eqb}
 use lib.ListN.{length}
-use Rattle.std.proofs.shelf.Tests.{cases-bool, cases-eq, both-ways, eq-eqb, ne-eqb, eqb-true, or-cases, or-left, or-right, or-from, cond-true, cond-false}
+use Rattle.std.proofs.shelf.Tests.{cases-bool, both-ways, eq-eqb, ne-eqb, eqb-true, or-cases, or-left, or-right, cond-true, cond-false}
 use Rattle.page.specs.Same.{sameBytes}
 use Rattle.page.proofs.Same.{same-from-equal, equal-from-same}
 use Rattle.rules.specs.State.{Bytes, tally}
 use Rattle.rules.specs.Promise.{occurs, different}
 use Rattle.rules.proofs.Tally.{tally-at, tally-same, tally-none, one-true, one-false}
 use Rattle.rules.proofs.Members.{In}
-use Rattle.rules.proofs.Collecting.{same-test}
+use Rattle.rules.proofs.Cases.{same-test}
 
 abbrev pub stands-in : ℕ → List ℕ → Bool
 stands-in q [] = false

@@ -1,16 +1,13 @@
 -- The theorems on the rules, gathered.
 use Prim.Native.Nat.{ℕ}
-use mathlib.Core.Path.{_≡_, refl, sym, ap, subst, _∙_}
-use mathlib.Core.Bool.{Bool, true, false}
-use mathlib.Core.Logic.{_⊎_, inl, inr, ⊎-elim}
+use mathlib.Core.Path.{_≡_, refl, sym, ap, _∙_}
+use mathlib.Core.Bool.{true, false}
 use Rattle.std.specs.declared.result.Result.{Result}
 use Rattle.std.specs.declared.result.Result.the-variants.{Ok, Err}
 use Rattle.std.proofs.shelf.Tests.{both-ways}
 use Rattle.rules.specs.declared.refusal.Refusal.{Refusal}
-use Rattle.rules.specs.declared.answer.Written.{Written}
-use Rattle.rules.specs.declared.answer.Usage.{Usage}
 use Rattle.rules.specs.declared.answer.Answer.{Answer}
-use Rattle.rules.specs.declared.answer.Answer.the-variants.{Refused, Wrote, Page, Number, Used}
+use Rattle.rules.specs.declared.answer.Answer.the-variants.{Wrote, Page, Number, Used}
 use Rattle.rules.specs.State.{Bytes, State, pageMap}
 use Rattle.rules.specs.Calls.{Writes, Reads, Trims, Collects, Scans, Asks}
 use Rattle.rules.specs.Runs.{Call, Saves, answerOf, Step}
@@ -21,6 +18,7 @@ use Rattle.rules.proofs.Steps.{step-outcome}
 use Rattle.rules.proofs.Made.{made-stands}
 use Rattle.rules.proofs.Lives.{other-call}
 use Rattle.rules.proofs.Supplies.{dead-page, free-entry}
+use Rattle.rules.proofs.Moving.{mid}
 use Rattle.rules.proofs.Readying.{ready-after}
 
 pub always-stands : AlwaysStands
@@ -51,4 +49,4 @@ keeps-pages = record {
 }
 
 pub has-what-rules-need : HasWhatRulesNeed
-has-what-rules-need = record { deadPage = dead-page; freeEntry = free-entry; readyAfter = ready-after }
+has-what-rules-need = record { deadPage = dead-page; freeEntry = λ print s q h. free-entry print s q (mid print s h); readyAfter = ready-after }

@@ -1,22 +1,22 @@
 -- A host page's word takes another value, and the reference that it was is let go.
-use Prim.Native.Nat.{ℕ, _+_, _-_, _*_, _/_, _%_, _<_, _≤_}
+use Prim.Native.Nat.{ℕ, _-_, _<_, _≤_}
 use mathlib.Core.Path.{_≡_, refl, sym, ap, subst, fun-ext, _∙_}
-use mathlib.Core.Bool.{Bool, true, false, cond}
+use mathlib.Core.Bool.{true, cond}
 use mathlib.Core.List.{List, map}
 use mathlib.Core.Logic.{_⊎_, inl, inr, ⊎-elim}
 use native.Mathlib.Omega.{arith}
 use lib.Dec.{eqb, ltb}
-use lib.ListN.{length, getD, set}
+use lib.ListN.{length}
 use Rattle.std.specs.declared.option.Option.{Option}
 use Rattle.std.specs.declared.option.Option.the-variants.{Some, None}
 use Rattle.std.proofs.shelf.Lists.{length-set, length-map, getD-past, getD-map}
-use Rattle.std.proofs.shelf.Tests.{cases-eq, cases-lt, cases-bool, eq-eqb, ne-eqb, eqb-true, eqb-false, lt-ltb, le-ltb, ltb-true, ltb-false, cond-true, cond-false, both-ways}
-use Rattle.rules.specs.State.{Bytes, Entry, State, noPage, tally, flashPages, hostPages, names, leads, reach, content, inUse, isWritten}
+use Rattle.std.proofs.shelf.Tests.{cases-eq, cases-lt, cases-bool, eq-eqb, ne-eqb, eqb-true, lt-ltb, le-ltb, ltb-true, cond-true, cond-false, both-ways}
+use Rattle.rules.specs.State.{Entry, State, noPage, hostPages, names, leads, reach, inUse, isWritten}
 use Rattle.rules.specs.Tables.{without, dies, withWord, withShared, isHeld, letGo, repoint}
 use Rattle.rules.specs.Store.{entryAt}
 use Rattle.rules.specs.Making.{Agree, Agrees}
 use Rattle.rules.proofs.Tally.{tally-find, tally-pos}
-use Rattle.rules.proofs.Namers.{put, put-same, put-other, AgreeBut, Fit, word-put, let-go-kept, let-go-freed, leads-cases}
+use Rattle.rules.proofs.Namers.{put, put-other, AgreeBut, Fit, word-put, let-go-kept, let-go-freed, leads-cases}
 use Rattle.rules.proofs.Reaches.{goes-word, goes-word-other, goes-freed, leads-same}
 use Rattle.rules.proofs.Crossing.{name-set-word, name-set-entry, name-entry, name-past}
 use Rattle.rules.proofs.Live.{live-from, live-find}

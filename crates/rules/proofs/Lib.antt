@@ -1,3 +1,4 @@
+pub mod Cases
 pub mod Tally
 pub mod Namers
 pub mod Reaches
@@ -25,3 +26,5 @@ pub mod Decided
 pub mod Supplies
 pub mod Gathered
 pub mod Worked
+pub mod Choosing
+pub mod Answered

@@ -1,13 +1,13 @@
 -- Which flash pages are in use.
-use Prim.Native.Nat.{ℕ, _+_, _*_, _<_, _≤_}
-use mathlib.Core.Path.{_≡_, refl, sym, ap, subst, _∙_}
-use mathlib.Core.Bool.{Bool, true, false, cond}
+use Prim.Native.Nat.{ℕ, _<_, _≤_}
+use mathlib.Core.Path.{_≡_, sym, ap, subst, _∙_}
+use mathlib.Core.Bool.{true, false}
 use mathlib.Core.Logic.{_⊎_, inl, inr, ⊎-elim}
 use native.Mathlib.Omega.{arith}
 use lib.Dec.{eqb, ltb}
-use Rattle.std.proofs.shelf.Tests.{cases-eq, cases-lt, cases-bool, eq-eqb, ne-eqb, eqb-true, lt-ltb, le-ltb, ltb-true, both-ways}
+use Rattle.std.proofs.shelf.Tests.{cases-eq, cases-bool, eq-eqb, eqb-true, lt-ltb, ltb-true}
 use Rattle.rules.specs.State.{State, noPage, tally, hostPages, names, leads, reach, references, inUse, isWritten}
-use Rattle.rules.specs.Making.{Agree, Agrees}
+use Rattle.rules.specs.Making.{Agrees}
 use Rattle.rules.proofs.Tally.{tally-find, tally-pos, tally-same}
 use Rattle.rules.proofs.Namers.{leads-cases}
 

@@ -1,9 +1,9 @@
 -- The promise, over whole lives.
-use Prim.Native.Nat.{ℕ, _+_, _≤_}
+use Prim.Native.Nat.{ℕ, _+_}
 use mathlib.Core.Path.{_≡_, refl, sym, ap, subst, _∙_}
-use mathlib.Core.Bool.{Bool, true, false, cond}
+use mathlib.Core.Bool.{Bool, true, false}
 use mathlib.Core.List.{List, [], _∷_}
-use mathlib.Core.Logic.{_⊎_, inl, inr, ⊎-elim}
+use mathlib.Core.Logic.{_⊎_, ⊎-elim}
 use native.Mathlib.Omega.{arith}
 use Rattle.std.specs.declared.option.Option.{Option}
 use Rattle.std.proofs.shelf.Tests.{cases-bool, both-ways, cond-true, cond-false}
@@ -11,14 +11,14 @@ use Rattle.flash.specs.Part.{wear}
 use Rattle.rules.specs.declared.answer.Answer.{Answer}
 use Rattle.rules.specs.State.{Bytes, State, pageMap}
 use Rattle.rules.specs.Stands.{Stands}
-use Rattle.rules.specs.Runs.{Call, Step, Run, Life}
+use Rattle.rules.specs.Runs.{Call, Run, Life}
 use Rattle.rules.specs.Runs.Call.{write, read, trim, collect, scan, usage, save}
-use Rattle.rules.specs.Promise.{Seen, seen, isHost, hostCalls, SameAnswers, storedAndMoved, settledFrom, Kept, Promise}
+use Rattle.rules.specs.Promise.{seen, isHost, hostCalls, SameAnswers, storedAndMoved, settledFrom, Promise}
 use Rattle.rules.specs.Promise.Seen.{refused}
 use Rattle.rules.specs.PlainMap.{plainAnswer, plainAfter, Plain}
 use Rattle.rules.proofs.Moving.{mid}
 use Rattle.rules.proofs.Counting.{pages-enough, pages-few}
-use Rattle.rules.proofs.Steps.{Exact, Outcome, step-outcome}
+use Rattle.rules.proofs.Steps.{Exact, step-outcome}
 use Rattle.rules.proofs.Made.{made-stands}
 
 -- What a run keeps and does.

@@ -1,25 +1,26 @@
 -- A device that was made stands.
-use Prim.Native.Nat.{ℕ, zero, suc, _+_, _-_, _*_, _/_, _%_, _<_, _≤_}
+use Prim.Native.Nat.{ℕ, _+_, _-_, _*_, _/_, _<_}
 use mathlib.Core.Path.{_≡_, refl, sym, ap, subst, _∙_}
-use mathlib.Core.Bool.{Bool, true, false, cond}
+use mathlib.Core.Bool.{true}
 use mathlib.Core.List.{List, [], _∷_, map}
 use mathlib.Core.Logic.{_⊎_, inl, inr, ⊎-elim}
 use native.Mathlib.Omega.{arith}
-use lib.Dec.{eqb, ltb}
-use lib.ListN.{length, getD, set, replicate}
+use lib.Dec.{eqb}
+use lib.ListN.{length, getD, replicate}
 use Rattle.std.specs.declared.option.Option.{Option}
 use Rattle.std.specs.declared.option.Option.the-variants.{Some, None}
 use Rattle.std.proofs.shelf.Lists.{length-map, length-replicate, getD-replicate, getD-past, getD-map}
 use Rattle.std.proofs.shelf.Tests.{cases-eq, cases-lt, eq-eqb, ne-eqb, cond-true, cond-false}
-use Rattle.flash.specs.Part.{Block, Part, SoundBlock, Sound, noBlock, block, written, erases}
-use Rattle.rules.specs.State.{Bytes, Entry, State, noPage, blockCount, perBlock, flashPages, hostPages, names, content, inUse, isWritten, hotness, isClean, isPartWritten}
+use Rattle.flash.specs.Part.{Block, Part, SoundBlock, Sound, noBlock, written, erases}
+use Rattle.rules.specs.State.{Bytes, Entry, State, noPage, blockCount, perBlock, flashPages, hostPages, names, content, inUse, hotness}
 use Rattle.rules.specs.Store.{entryAt, Entered, Offers}
 use Rattle.rules.specs.Calls.{below}
-use Rattle.rules.specs.Making.{sizeRefusal, SizesFit, cleared, FormatAccepts, formatted, Agree, Agrees, BlocksStand, Refilled, Loaded, Made}
-use Rattle.rules.specs.Stands.{EntryStands, StoreStands, Stands}
-use Rattle.rules.proofs.Sizes.{Sizes, sizes-fit}
+use Rattle.rules.specs.Making.{sizeRefusal, SizesFit, cleared, FormatAccepts, formatted, Refilled, Loaded, Made}
+use Rattle.rules.specs.Stands.{EntryStands, Stands}
+use Rattle.rules.proofs.Sizes.{sizes-fit}
 use Rattle.rules.proofs.Blocks.{part-written-in}
 use Rattle.rules.proofs.Crossing.{name-word, name-entry}
+use Rattle.rules.proofs.Cases.{some-same, none-some}
 use Rattle.rules.proofs.Members.{In, in-below}
 use Rattle.rules.proofs.Entering.{entered-cases, entered-length, entered-entry, entered-apart}
 
@@ -28,10 +29,7 @@ pub getD-all : {X : Type 0} (n k : ℕ) (x : X) → getD (replicate n x) k x ≡
 getD-all n k x =
     ⊎-elim (λ l. getD-replicate n k x x l) (λ h. getD-past (replicate n x) k x (omega (arith, length-replicate n x))) (cases-lt k n)
 
--- A free place is no entry, and an empty store has only free places.
-none-some : (o : Option Entry) (e : Entry) → o ≡ None → o ≡ Some e → ⊥
-none-some o e free is = let z : _≡_ {A = ℕ} 0 1 = cc in omega arith
-
+-- An empty store has only free places.
 pub empty-store : (n k : ℕ) (e : Entry) → entryAt (replicate n None) k ≡ Some e → ⊥
 empty-store n k e is = none-some (entryAt (replicate n None) k) e (getD-all n k None) is
 
@@ -126,7 +124,7 @@ refilled-one print s q x store next inside live has f none entered = record {
         segment = ap (λ i. i / 16) (new .0) ∙ p .1 .1;
         inside = inside;
         live = live;
-        right = λ y y-has. ap print (some-same x y (sym has ∙ y-has));
+        right = λ y y-has. ap print (some-same (Some x) x y refl (sym has ∙ y-has));
       }))
       (λ old. f .each k e (old .1))
       (entered-entry store next (record { print = print x; page = q }) (p .0) (omega (arith, p .1 .0, f .places)) (p .2) k e is))
@@ -134,9 +132,6 @@ refilled-one print s q x store next inside live has f none entered = record {
   apart = entered-apart (content (s .part)) print (hotness s) store next x q (hotness s q) entered (f .places) has
       (λ k e is y y-has. f .each k e is .right y y-has) (λ k p is p-has. none p (k, is, p-has)) (f .apart);
 }
-  where
-    some-same : (y z : Bytes) → Some y ≡ Some z → y ≡ z
-    some-same y z e = cc
 
 refilled-stands : (print : Bytes → ℕ) (s : State) (qs : List ℕ) (store after : List (Option Entry))
     → ((q : ℕ) → In q qs → (q < flashPages s) × (inUse s q ≡ true)) → Filled print s store → Refilled print s qs store after → Filled print s after
@@ -164,5 +159,5 @@ loaded-stands print s sound l =
     }
 
 pub made-stands : (print : Bytes → ℕ) (s : State) → Made print s → Stands print s
-made-stands print s (inl (p, host, sound, accepts, is)) = subst (Stands print) (sym is) (formatted-stands print p host sound accepts)
+made-stands print s (inl (p, host, sound, (accepts, is))) = subst (Stands print) (sym is) (formatted-stands print p host sound accepts)
 made-stands print s (inr (sound, l)) = loaded-stands print s sound l

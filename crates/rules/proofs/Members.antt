@@ -1,5 +1,5 @@
 -- The numbers below a bound that pass a test, as a list.
-use Prim.Native.Nat.{ℕ, zero, suc, _+_, _<_, _≤_}
+use Prim.Native.Nat.{ℕ, zero, suc, _<_}
 use mathlib.Core.Path.{_≡_, refl, sym, ap, subst, _∙_}
 use mathlib.Core.Bool.{Bool, true, false, cond}
 use mathlib.Core.List.{List, [], _∷_, _++_}
@@ -10,7 +10,7 @@ use Rattle.std.proofs.shelf.Lists.{length-push, append-nil}
 use Rattle.std.proofs.shelf.Tests.{cases-bool, cases-eq}
 use Rattle.rules.specs.State.{tally}
 use Rattle.rules.specs.Calls.{below}
-use Rattle.rules.proofs.Tally.{one, one-true, one-false}
+use Rattle.rules.proofs.Tally.{one-true, one-false}
 
 -- k stands in the list.
 abbrev pub In : ℕ → List ℕ → Type 0

@@ -1,26 +1,27 @@
 -- A flash page is moved: what stands between calls, but for the spare block, stands after it.
-use Prim.Native.Nat.{ℕ, _+_, _-_, _*_, _/_, _%_, _<_, _≤_}
+use Prim.Native.Nat.{ℕ, _+_, _*_, _%_, _<_, _≤_}
 use mathlib.Core.Path.{_≡_, refl, sym, ap, subst, fun-ext, _∙_}
-use mathlib.Core.Bool.{Bool, true, false, cond}
-use mathlib.Core.List.{List, [], _∷_, map}
-use mathlib.Core.Logic.{_⊎_, inl, inr, ⊎-elim}
+use mathlib.Core.Bool.{true}
+use mathlib.Core.List.{[]}
+use mathlib.Core.Logic.{_⊎_, ⊎-elim}
 use native.Mathlib.Omega.{arith}
-use lib.Dec.{eqb, ltb}
+use lib.Dec.{ltb}
 use lib.ListN.{length}
 use Rattle.std.specs.declared.option.Option.{Option}
 use Rattle.std.specs.declared.option.Option.the-variants.{Some, None}
 use Rattle.std.specs.Options.{valueOr}
 use Rattle.std.proofs.shelf.Lists.{length-set, length-map}
-use Rattle.std.proofs.shelf.Tests.{cases-eq, cases-lt, cases-bool, both-ways}
-use Rattle.flash.specs.Part.{Part, Sound, written, appended, wear}
+use Rattle.std.proofs.shelf.Tests.{both-ways}
+use Rattle.flash.specs.Part.{Part, Sound, written, wear}
 use Rattle.flash.proofs.Keeps.{sound-appended}
 use Rattle.flash.proofs.Wear.{wear-appended}
 use Rattle.rules.specs.State.{Bytes, Entry, State, noPage, blockCount, perBlock, flashPages, hostPages, names, leads, reach, content, inUse, isWritten, isClean, held}
 use Rattle.rules.specs.Tables.{nextPage, renamed, renamedEntry, movedTo}
 use Rattle.rules.specs.Store.{entryAt, Offers}
 use Rattle.rules.specs.Calls.{Takes}
-use Rattle.rules.specs.Making.{sizeRefusal, SizesFit, Agree, Agrees, BlocksStand}
-use Rattle.rules.specs.Stands.{EntryStands, StoreStands, Stands}
+use Rattle.rules.specs.Making.{sizeRefusal, SizesFit, Agree, Agrees}
+use Rattle.rules.specs.Stands.{StoreStands, Stands}
+use Rattle.rules.proofs.Cases.{same-ways}
 use Rattle.rules.proofs.Sizes.{Sizes, sizes-fit, host-few}
 use Rattle.rules.proofs.Namers.{renamed-cases, rename-agrees}
 use Rattle.rules.proofs.Reaches.{goes-renamed}
@@ -120,10 +121,6 @@ module _ (print : Bytes → ℕ) (s : State) (q b : ℕ) (h : Mid print s) (take
     where
       none : renamed q new noPage ≡ noPage
       none = ⊎-elim (λ c. absurd (omega (arith, c .0, q-small))) (λ c. c .1) (renamed-cases q new noPage)
-
-      same-ways : (t : Bool) (v : ℕ) → cond t v v ≡ v
-      same-ways true v = refl
-      same-ways false v = refl
 
   t-hosts : hostPages t ≡ hostPages s
   t-hosts = length-map (s .words) (renamed q new)

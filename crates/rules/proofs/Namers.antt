@@ -1,15 +1,15 @@
 -- How the small changes of the namers keep them in agreement with the part.
-use Prim.Native.Nat.{ℕ, _+_, _<_, _≤_}
+use Prim.Native.Nat.{ℕ, _<_, _≤_}
 use mathlib.Core.Path.{_≡_, refl, sym, ap, subst, _∙_}
-use mathlib.Core.Bool.{Bool, true, false, cond}
+use mathlib.Core.Bool.{Bool, true, cond}
 use mathlib.Core.Logic.{_⊎_, inl, inr, ⊎-elim}
 use native.Mathlib.Omega.{arith}
 use lib.Dec.{eqb, ltb}
-use Rattle.std.proofs.shelf.Tests.{cases-eq, cases-lt, eq-eqb, ne-eqb, lt-ltb, le-ltb}
-use Rattle.std.proofs.shelf.Ways.{tells, eqb-tells}
+use Rattle.std.proofs.shelf.Tests.{cases-eq, eq-eqb, ne-eqb, lt-ltb}
 use Rattle.rules.specs.State.{noPage, leads}
 use Rattle.rules.specs.Tables.{renamed}
 use Rattle.rules.specs.Making.{Agree}
+use Rattle.rules.proofs.Cases.{by-eq, by-lt}
 
 -- Namer k holds v, every other what it held.
 abbrev pub put : (ℕ → ℕ) → ℕ → ℕ → ℕ → ℕ
@@ -23,9 +23,7 @@ put-other f k v j ne = ap (λ t. cond t v (f j)) (ne-eqb j k ne)
 
 -- What a namer holds after a put, by cases.
 pub put-cases : (f : ℕ → ℕ) (k v j : ℕ) → ((j ≡ k) × (put f k v j ≡ v)) ⊎ ((j ≡ k → ⊥) × (put f k v j ≡ f j))
-put-cases f k v j =
-    ⊎-elim (λ e. inl (e, subst (λ i. put f k v i ≡ v) (sym e) (put-same f k v)))
-    (λ ne. inr (ne, put-other f k v j ne)) (cases-eq j k)
+put-cases f k v j = by-eq j k v (f j)
 
 -- Agreement but for the one namer x, which may name a page without being named.
 pub record AgreeBut (f : ℕ → ℕ) (isWritten : ℕ → Bool) (host x : ℕ) : Type 0 where
@@ -131,9 +129,7 @@ let-go-freed f isWritten host x few a big free = record {
 
 -- What a namer holds after page q is renamed, by cases.
 pub renamed-cases : (q q′ w : ℕ) → ((w ≡ q) × (renamed q q′ w ≡ q′)) ⊎ ((w ≡ q → ⊥) × (renamed q q′ w ≡ w))
-renamed-cases q q′ w =
-    ⊎-elim (λ e. inl (e, ap (λ t. cond t q′ w) (eq-eqb w q e))) (λ ne. inr (ne, ap (λ t. cond t q′ w) (ne-eqb w q ne)))
-    (cases-eq w q)
+renamed-cases q q′ w = by-eq w q q′ w
 
 -- A page moves to one that has no namer yet; what was written stays written.
 pub rename-agrees : (f : ℕ → ℕ) (isWritten isWritten′ : ℕ → Bool) (host q q′ : ℕ) → host ≤ 4096
@@ -173,28 +169,19 @@ mergedNames f j e k = cond (ltb k 4096) (mergedWord f j e (f k)) (mergedEntry j 
 
 pub merged-word-cases : (f : ℕ → ℕ) (j e w : ℕ)
     → ((leads f w ≡ j) × (mergedWord f j e w ≡ e)) ⊎ ((leads f w ≡ j → ⊥) × (mergedWord f j e w ≡ w))
-merged-word-cases f j e w =
-    ⊎-elim (λ h. inl (h, ap (λ t. cond t e w) (eq-eqb (leads f w) j h)))
-    (λ h. inr (h, ap (λ t. cond t e w) (ne-eqb (leads f w) j h))) (cases-eq (leads f w) j)
+merged-word-cases f j e w = by-eq (leads f w) j e w
 
 pub merged-entry-cases : (j q : ℕ) → ((q ≡ j) × (mergedEntry j q ≡ noPage)) ⊎ ((q ≡ j → ⊥) × (mergedEntry j q ≡ q))
-merged-entry-cases j q =
-    ⊎-elim (λ h. inl (h, ap (λ t. cond t noPage q) (eq-eqb q j h)))
-    (λ h. inr (h, ap (λ t. cond t noPage q) (ne-eqb q j h))) (cases-eq q j)
+merged-entry-cases j q = by-eq q j noPage q
 
 -- Whether a word names a page itself or an entry.
 pub leads-cases : (f : ℕ → ℕ) (w : ℕ) → ((w < 4096) × (leads f w ≡ w)) ⊎ ((4096 ≤ w) × (leads f w ≡ f w))
-leads-cases f w =
-    ⊎-elim (λ l. inl (l, ap (λ t. cond t w (f w)) (lt-ltb w 4096 l))) (λ g. inr (g, ap (λ t. cond t w (f w)) (le-ltb w 4096 g)))
-    (cases-lt w 4096)
+leads-cases f w = by-lt w 4096 w (f w)
 
 -- A merged namer is a word or an entry.
 pub merged-cases : (f : ℕ → ℕ) (j e k : ℕ)
     → ((k < 4096) × (mergedNames f j e k ≡ mergedWord f j e (f k))) ⊎ ((4096 ≤ k) × (mergedNames f j e k ≡ mergedEntry j (f k)))
-merged-cases f j e k =
-    ⊎-elim (λ l. inl (l, ap (λ t. cond t (mergedWord f j e (f k)) (mergedEntry j (f k))) (lt-ltb k 4096 l)))
-    (λ g. inr (g, ap (λ t. cond t (mergedWord f j e (f k)) (mergedEntry j (f k))) (le-ltb k 4096 g)))
-    (cases-lt k 4096)
+merged-cases f j e k = by-lt k 4096 (mergedWord f j e (f k)) (mergedEntry j (f k))
 
 -- A merged namer that names a page named it before, and it is not the copy.
 merged-direct : (f : ℕ → ℕ) (j e k : ℕ) → 4096 ≤ e → mergedNames f j e k < noPage

@@ -1,15 +1,15 @@
 -- Which flash page a host page's word reaches after a small change of the namers.
-use Prim.Native.Nat.{ℕ, _+_, _<_, _≤_}
-use mathlib.Core.Path.{_≡_, refl, sym, ap, subst, _∙_}
-use mathlib.Core.Bool.{Bool, true, false, cond}
+use Prim.Native.Nat.{ℕ, _<_, _≤_}
+use mathlib.Core.Path.{_≡_, sym, ap, subst, _∙_}
+use mathlib.Core.Bool.{Bool, cond}
 use mathlib.Core.Logic.{_⊎_, inl, inr, ⊎-elim}
 use native.Mathlib.Omega.{arith}
-use lib.Dec.{eqb, ltb}
+use lib.Dec.{eqb}
 use Rattle.std.proofs.shelf.Tests.{cases-eq, eq-eqb, ne-eqb}
 use Rattle.rules.specs.State.{noPage, leads}
 use Rattle.rules.specs.Tables.{renamed}
 use Rattle.rules.specs.Making.{Agree}
-use Rattle.rules.proofs.Namers.{put, put-same, put-other, put-cases, renamed-cases, leads-cases, mergedNames, mergedWord, mergedEntry, merged-cases, merged-word-cases, merged-entry-cases}
+use Rattle.rules.proofs.Namers.{put, put-same, put-other, renamed-cases, leads-cases, mergedNames, mergedWord, mergedEntry, merged-cases, merged-word-cases, merged-entry-cases}
 
 -- The page that word n reaches.
 abbrev pub goes : (ℕ → ℕ) → ℕ → ℕ

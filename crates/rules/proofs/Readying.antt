@@ -1,36 +1,21 @@
 -- After the collection that a write makes, a page can be stored.
 use Prim.Native.Nat.{ℕ, _+_, _*_, _<_, _≤_}
-use mathlib.Core.Path.{_≡_, refl, sym, ap, subst, _∙_}
-use mathlib.Core.Bool.{Bool, true, false, cond, not, _&&_}
+use mathlib.Core.Path.{_≡_, sym, ap, subst, _∙_}
+use mathlib.Core.Bool.{true, not}
 use mathlib.Core.List.{List, [], _∷_}
 use mathlib.Core.Logic.{_⊎_, inl, inr, ⊎-elim}
 use native.Mathlib.Omega.{arith}
-use lib.Dec.{eqb}
 use lib.ListN.{length}
 use Rattle.std.proofs.shelf.Lists.{length-set}
-use Rattle.std.proofs.shelf.Tests.{cases-eq, cases-lt, eq-eqb, ne-eqb, and-parts}
-use Rattle.flash.specs.Part.{Part, written}
-use Rattle.rules.specs.State.{Bytes, State, tally, blockCount, perBlock, inUse, isDead, isWritten, isClean, isPartWritten, cleanBlocks, inUseAt, liveIn}
+use Rattle.std.proofs.shelf.Tests.{cases-eq, eq-eqb, and-parts}
+use Rattle.flash.specs.Part.{written}
+use Rattle.rules.specs.State.{Bytes, State, blockCount, perBlock, inUse, isDead, isWritten, isClean, isPartWritten, inUseAt, liveIn}
 use Rattle.rules.specs.Tables.{movedTo, erasedBlock}
-use Rattle.rules.specs.Calls.{HasPartWritten, Takes, deadIn, Collectable, Candidate, Victim, below, Moves, Collected, Ready}
+use Rattle.rules.specs.Calls.{HasPartWritten, deadIn, Victim, below, Moves, Collected, Ready}
 use Rattle.rules.specs.Stands.{Stands}
-use Rattle.rules.proofs.Tally.{tally-at, tally-pos, tally-mono, tally-not, one-true, one-false}
+use Rattle.rules.proofs.Tally.{tally-mono, tally-not, tally-two}
 use Rattle.rules.proofs.Members.{length-below}
 use Rattle.rules.proofs.Blocks.{part-written-in, part-written-from, clean-in, closed-in, written-here, written-other, erased-here, erased-other}
-
--- Two different numbers that pass count at least two.
-pub tally-two : (f : ℕ → Bool) (n c d : ℕ) → c < n → d < n → (d ≡ c → ⊥) → f c ≡ true → f d ≡ true → 2 ≤ tally f n
-tally-two f n c d in-c in-d ne at-c at-d =
-    let g : ℕ → Bool = λ k. cond (eqb k c) false (f k) in
-    let off : g c ≡ false = ap (λ t. cond t false (f c)) (eq-eqb c c refl) in
-    let on : (k : ℕ) → (k ≡ c → ⊥) → f k ≡ g k = λ k k-ne. sym (ap (λ t. cond t false (f k)) (ne-eqb k c k-ne)) in
-    omega (
-      arith,
-      tally-at f g n c in-c (λ j l j-ne. on j j-ne),
-      one-true (f c) at-c,
-      one-false (g c) off,
-      tally-pos g n d in-d (sym (on d ne) ∙ at-d),
-    )
 
 -- A block's pages in use and its dead pages are different pages.
 pub live-and-dead : (s : State) (b : ℕ) → liveIn s b + deadIn s b ≤ perBlock s

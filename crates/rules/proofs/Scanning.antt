@@ -1,32 +1,25 @@
 -- A copy is merged into the lowest page with its content.
-use Prim.Native.Nat.{ℕ, zero, suc, _+_, _-_, _*_, _<_, _≤_}
+use Prim.Native.Nat.{ℕ, zero, suc, _+_, _<_}
 use mathlib.Core.Path.{_≡_, refl, sym, ap, subst, fun-ext, _∙_}
-use mathlib.Core.Bool.{Bool, true, false, cond}
-use mathlib.Core.List.{List, map}
+use mathlib.Core.Bool.{false, cond}
 use mathlib.Core.Logic.{_⊎_, inl, inr, ⊎-elim}
 use native.Mathlib.Omega.{arith}
-use lib.Dec.{eqb, ltb}
-use lib.ListN.{length}
-use Rattle.std.specs.declared.option.Option.{Option}
-use Rattle.std.specs.declared.option.Option.the-variants.{Some, None}
+use lib.Dec.{eqb}
 use Rattle.std.proofs.shelf.Lists.{length-map}
-use Rattle.std.proofs.shelf.Tests.{cases-eq, cases-lt, cases-bool, both-ways, eq-eqb, ne-eqb}
-use Rattle.flash.specs.Part.{Part, wear}
-use Rattle.rules.specs.State.{Bytes, Entry, State, noPage, tally, blockCount, perBlock, flashPages, hostPages, names, leads, reach, content, inUse, isWritten, livePages, held}
+use Rattle.std.proofs.shelf.Tests.{cases-eq, eq-eqb, ne-eqb}
+use Rattle.rules.specs.State.{Bytes, State, noPage, flashPages, hostPages, names, leads, reach, content, inUse, isWritten, livePages, held}
 use Rattle.rules.specs.Tables.{without, EntryFor, lifted, merged}
-use Rattle.rules.specs.Store.{entryAt}
 use Rattle.rules.specs.Calls.{Copies, Merges}
 use Rattle.rules.specs.Making.{Agree, Agrees}
-use Rattle.rules.specs.Stands.{EntryStands, StoreStands, Stands}
-use Rattle.rules.proofs.Tally.{tally-at, one, one-true, one-false}
+use Rattle.rules.proofs.Tally.{tally-at, one-true, one-false}
 use Rattle.rules.proofs.Namers.{mergedNames, mergedWord, mergedEntry, merged-word-cases, merged-entry-cases, merge-agrees, leads-cases}
 use Rattle.rules.proofs.Reaches.{goes-merged}
 use Rattle.rules.proofs.Crossing.{name-mapped}
 use Rattle.rules.proofs.Live.{live-from, live-find, live-not}
 use Rattle.rules.proofs.LetGo.{entry-left}
-use Rattle.rules.proofs.Collecting.{same-test}
-use Rattle.rules.proofs.Moving.{Mid, mid, stands, sizes, hosts, fits-same}
-use Rattle.rules.proofs.Sharing.{lifted-mid, lifted-entry, lifted-reach, lifted-live, lifted-hosts}
+use Rattle.rules.proofs.Cases.{same-test}
+use Rattle.rules.proofs.Moving.{Mid, sizes, hosts, fits-same}
+use Rattle.rules.proofs.Sharing.{lifted-mid, lifted-entry, lifted-reach, lifted-hosts}
 
 module _ (print : Bytes → ℕ) (s : State) (i j e : ℕ) (h : Mid print s) (apart : i < j) (copies : Copies s i j) (entry : EntryFor s i e) where
   abbrev u : State

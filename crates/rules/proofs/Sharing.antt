@@ -1,37 +1,32 @@
 -- A page is shared through an entry, and a word is pointed elsewhere.
-use Prim.Native.Nat.{ℕ, _+_, _-_, _*_, _/_, _%_, _<_, _≤_}
+use Prim.Native.Nat.{ℕ, _+_, _-_, _*_, _<_, _≤_}
 use mathlib.Core.Path.{_≡_, refl, sym, ap, subst, fun-ext, _∙_}
-use mathlib.Core.Bool.{Bool, true, false, cond}
-use mathlib.Core.List.{List, map}
+use mathlib.Core.Bool.{true, cond}
+use mathlib.Core.List.{map}
 use mathlib.Core.Logic.{_⊎_, inl, inr, ⊎-elim}
 use native.Mathlib.Omega.{arith}
 use lib.Dec.{eqb, ltb}
 use lib.ListN.{length, set}
-use Rattle.std.specs.declared.option.Option.{Option}
-use Rattle.std.specs.declared.option.Option.the-variants.{Some, None}
 use Rattle.std.proofs.shelf.Lists.{length-set, length-map}
-use Rattle.std.proofs.shelf.Tests.{cases-eq, cases-lt, cases-bool, both-ways, eq-eqb, ne-eqb, lt-ltb, le-ltb}
 use Rattle.flash.specs.Part.{Part, Sound}
-use Rattle.rules.specs.State.{Bytes, Entry, State, noPage, blockCount, perBlock, flashPages, hostPages, name, names, leads, reach, content, inUse, isWritten, held}
+use Rattle.rules.specs.State.{Bytes, State, noPage, perBlock, hostPages, name, names, leads, reach, content, inUse, isWritten, held}
 use Rattle.rules.specs.Tables.{EntryFor, lifted, repoint}
-use Rattle.rules.specs.Store.{entryAt}
 use Rattle.rules.specs.Making.{Agree, Agrees}
-use Rattle.rules.specs.Stands.{EntryStands, StoreStands, Stands}
+use Rattle.rules.proofs.Cases.{by-eq, by-lt}
 use Rattle.rules.proofs.Namers.{put, put-same, put-other, put-cases, Fit, lift-put, leads-cases}
 use Rattle.rules.proofs.Reaches.{goes-lifted}
 use Rattle.rules.proofs.Crossing.{name-set-entry, name-mapped-words}
 use Rattle.rules.proofs.Live.{live-find, live-same}
 use Rattle.rules.proofs.LetGo.{repoint-agrees, reach-here, reach-other, repoint-part, repoint-hosts, repoint-shared, repoint-places, repoint-was, repoint-entry}
 use Rattle.rules.proofs.Blocks.{Single}
-use Rattle.rules.proofs.Moving.{Mid, mid, stands, sizes, hosts, fits-same}
+use Rattle.rules.proofs.Moving.{Mid, sizes, hosts, fits-same}
 
 -- A word that named q names entry k instead.
 abbrev pub redirect : ℕ → ℕ → ℕ → ℕ
 redirect q k w = cond (eqb w q) k w
 
 pub redirect-cases : (q k w : ℕ) → ((w ≡ q) × (redirect q k w ≡ k)) ⊎ ((w ≡ q → ⊥) × (redirect q k w ≡ w))
-redirect-cases q k w =
-    ⊎-elim (λ e. inl (e, ap (λ t. cond t k w) (eq-eqb w q e))) (λ ne. inr (ne, ap (λ t. cond t k w) (ne-eqb w q ne))) (cases-eq w q)
+redirect-cases q k w = by-eq w q k w
 
 module _ (print : Bytes → ℕ) (s : State) (q e : ℕ) (h : Mid print s) (live : inUse s q ≡ true) (small : q < noPage)
     (entry : EntryFor s q e) where
@@ -75,9 +70,7 @@ module _ (print : Bytes → ℕ) (s : State) (q e : ℕ) (h : Mid print s) (live
 
       way : (i : ℕ) → ((i < 4096) × (cond (ltb i 4096) (redirect q k (names s i)) (names s i) ≡ redirect q k (names s i)))
           ⊎ ((4096 ≤ i) × (cond (ltb i 4096) (redirect q k (names s i)) (names s i) ≡ names s i))
-      way i =
-          ⊎-elim (λ l. inl (l, ap (λ t. cond t (redirect q k (names s i)) (names s i)) (lt-ltb i 4096 l)))
-          (λ b. inr (b, ap (λ t. cond t (redirect q k (names s i)) (names s i)) (le-ltb i 4096 b))) (cases-lt i 4096)
+      way i = by-lt i 4096 (redirect q k (names s i)) (names s i)
 
       as-was : names s k ≡ q → (j : ℕ) → put redirected k q j ≡ names s j
       as-was own j =

@@ -1,12 +1,11 @@
 -- What accepted sizes mean in numbers.
-use Prim.Native.Nat.{ℕ, _+_, _-_, _*_, _<_, _≤_}
-use mathlib.Core.Path.{_≡_, refl, sym, ap, subst, _∙_}
+use Prim.Native.Nat.{ℕ, _+_, _-_, _*_, _≤_}
+use mathlib.Core.Path.{_≡_, refl}
 use mathlib.Core.Bool.{Bool, true, false, cond, _&&_}
-use mathlib.Core.Logic.{_⊎_, inl, inr, ⊎-elim}
 use native.Mathlib.Nat.{mul-le-mul-right}
 use native.Mathlib.Omega.{arith}
 use lib.Dec.{leb}
-use Rattle.std.proofs.shelf.Tests.{and-parts, leb-true, cases-bool}
+use Rattle.std.proofs.shelf.Tests.{and-parts, leb-true}
 use Rattle.rules.specs.Making.{geometryFits, hostPagesFit, sizeRefusal}
 
 pub record Sizes (blocks pages host : ℕ) : Type 0 where

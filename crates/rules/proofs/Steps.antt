@@ -1,18 +1,16 @@
 -- Every rule keeps what stands, answers as a plain page map, and wears the flash by what it answers.
-use Prim.Native.Nat.{ℕ, _+_, _-_, _*_, _<_, _≤_}
+use Prim.Native.Nat.{ℕ, _+_, _<_, _≤_}
 use mathlib.Core.Path.{_≡_, refl, sym, ap, subst, _∙_}
 use mathlib.Core.Bool.{Bool, true, false, cond}
-use mathlib.Core.List.{List, [], _∷_}
 use mathlib.Core.Logic.{_⊎_, inl, inr, ⊎-elim}
 use native.Mathlib.Omega.{arith}
 use lib.Dec.{eqb, ltb}
-use lib.ListN.{length, getD, set}
-use Rattle.std.specs.declared.option.Option.{Option}
+use lib.ListN.{length, set}
 use Rattle.std.specs.declared.option.Option.the-variants.{Some, None}
 use Rattle.std.specs.Options.{isSome}
 use Rattle.std.specs.declared.result.Result.{Result}
 use Rattle.std.specs.declared.result.Result.the-variants.{Ok, Err}
-use Rattle.std.proofs.shelf.Tests.{cases-eq, cases-lt, both-ways, eq-eqb, ne-eqb, lt-ltb, le-ltb, cond-true, cond-false}
+use Rattle.std.proofs.shelf.Tests.{cases-eq, both-ways, eq-eqb, ne-eqb, lt-ltb, le-ltb, cond-true, cond-false}
 use Rattle.flash.specs.Part.{Part, written, appended, wear}
 use Rattle.rules.specs.declared.refusal.Refusal.{Refusal}
 use Rattle.rules.specs.declared.kind.Kind.{Kind}
@@ -22,22 +20,21 @@ use Rattle.rules.specs.declared.answer.Usage.{Usage}
 use Rattle.rules.specs.declared.answer.Answer.{Answer}
 use Rattle.rules.specs.declared.answer.Answer.the-variants.{Refused, Wrote, Page, Number, Used}
 use Rattle.rules.specs.Numbers.{refusalNumber}
-use Rattle.rules.specs.State.{Bytes, State, noPage, blockCount, perBlock, hostPages, names, leads, content, inUse, isWritten, isClean, livePages, held, pageMap}
+use Rattle.rules.specs.State.{Bytes, State, noPage, hostPages, names, leads, content, inUse, isWritten, livePages, held, pageMap}
 use Rattle.rules.specs.Tables.{nextPage, lifted, repoint}
-use Rattle.rules.specs.Store.{Offers}
-use Rattle.rules.specs.Calls.{Candidate, Ready, Readied, Stores, WritesAs, Writes, Reads, Trims, Collects, Scans, Asks, NoneOffered}
+use Rattle.rules.specs.Calls.{Ready, Readied, Stores, WritesAs, Writes, Reads, Trims, Collects, Scans, Asks, NoneOffered, NoHostPage, WrongLength, EmptyPage, NoRoom}
 use Rattle.rules.specs.Stands.{Stands}
 use Rattle.rules.specs.Runs.{Call, Saves, answerOf, Step}
 use Rattle.rules.specs.Runs.Call.{write, read, trim, collect, scan, usage, save}
-use Rattle.rules.specs.Promise.{Seen, seen, isHost, storedBy, movedBy, settledBy, contents, different}
-use Rattle.rules.specs.Promise.Seen.{refused, accepted, bytes, number}
-use Rattle.rules.specs.PlainMap.{shown, plainAnswer, plainAfter, Plain}
+use Rattle.rules.specs.Promise.{seen, storedBy, movedBy, settledBy, contents, different}
+use Rattle.rules.specs.Promise.Seen.{refused, number}
+use Rattle.rules.specs.PlainMap.{shown, plainAnswer, Plain}
 use Rattle.rules.proofs.Namers.{Fit, leads-cases}
 use Rattle.rules.proofs.Moving.{Mid, mid, stands, sizes}
-use Rattle.rules.proofs.Collecting.{Steady, collected-keeps}
+use Rattle.rules.proofs.Collecting.{collected-keeps}
 use Rattle.rules.proofs.Storing.{content-none, stored-stands, stored-hosts, stored-held, stored-other, stored-wear}
 use Rattle.rules.proofs.Sharing.{lifted-mid, lifted-entry, lifted-reach, lifted-hosts, pointed-mid, pointed-part, pointed-hosts, pointed-held, pointed-other}
-use Rattle.rules.proofs.Scanning.{Scanned, merges-scanned}
+use Rattle.rules.proofs.Scanning.{merges-scanned}
 use Rattle.rules.proofs.Counting.{pages-exact}
 use Rattle.rules.proofs.Readying.{ready-after}
 use Rattle.rules.proofs.PageMaps.{map-length, map-at, map-same, map-set, map-past}
@@ -78,11 +75,7 @@ write-refused : (print : Bytes → ℕ) (s : State) (n : ℕ) (x : Bytes) (e : R
 write-refused print s n x e t h (is, why) =
     idle print s (write n x) (Refused e) t h is (plain why) refl (λ so now. now)
   where
-    plain : ((refusalNumber e ≡ 4) × (hostPages s ≤ n))
-        ⊎ (((refusalNumber e ≡ 5) × (n < hostPages s) × (length x ≡ 256 → ⊥))
-        ⊎ ((refusalNumber e ≡ 3) × (n < hostPages s) × (length x ≡ 256) × (held s n ≡ Some x → ⊥) × NoneOffered print s x
-        × (Ready s → ⊥) × ((b : ℕ) → Candidate s b → ⊥)))
-        → Plain (pageMap s) (write n x) (Refused e) (pageMap s)
+    plain : NoHostPage s n e ⊎ (WrongLength s n (length x) e ⊎ NoRoom print s n x e) → Plain (pageMap s) (write n x) (Refused e) (pageMap s)
     plain (inl (four, out)) =
         inr (
           λ host. refused-as e 4 four ∙ sym (missing s n _ _ out),
@@ -225,10 +218,7 @@ read-outcome print s n len (Ok x) t h (is, inside, whole, has) =
     refl (λ so now. now)
 read-outcome print s n len (Err e) t h (is, why) = idle print s (read n len) (Refused e) t h is (inr (λ host. said why, refl)) refl (λ so now. now)
   where
-    said : ((refusalNumber e ≡ 4) × (hostPages s ≤ n))
-        ⊎ (((refusalNumber e ≡ 5) × (n < hostPages s) × (len ≡ 256 → ⊥))
-        ⊎ ((refusalNumber e ≡ 6) × (n < hostPages s) × (len ≡ 256) × (held s n ≡ None)))
-        → seen (Refused e) ≡ plainAnswer (pageMap s) (read n len)
+    said : NoHostPage s n e ⊎ (WrongLength s n len e ⊎ EmptyPage s n len e) → seen (Refused e) ≡ plainAnswer (pageMap s) (read n len)
     said (inl (four, out)) = refused-as e 4 four ∙ sym (missing s n _ _ out)
     said (inr (inl (five, inside, short))) =
         refused-as e 5 five ∙ sym (there s n _ _ inside ∙ cond-false (eqb len 256) _ _ (ne-eqb len 256 short))
@@ -237,7 +227,7 @@ read-outcome print s n len (Err e) t h (is, why) = idle print s (read n len) (Re
 
 trim-outcome : (print : Bytes → ℕ) (s : State) (n : ℕ) (r : Result ℕ Refusal) (t : State) → Stands print s
     → Trims s n r t → Outcome print s (trim n) (answerOf Number r) t
-trim-outcome print s n (Err e) t h (is, four, out) =
+trim-outcome print s n (Err e) t h (is, (four, out)) =
     idle print s (trim n) (Refused e) t h is
     (inr (λ host. refused-as e 4 four ∙ sym (missing s n _ _ out), sym (map-past s n None out))) refl (λ so now. now)
 trim-outcome print s n (Ok had) t h (inside, count, is) =

@@ -1,34 +1,33 @@
 -- A page is stored.
-use Prim.Native.Nat.{ℕ, _+_, _-_, _*_, _/_, _%_, _<_, _≤_}
-use mathlib.Core.Path.{_≡_, refl, sym, ap, subst, fun-ext, _∙_}
-use mathlib.Core.Bool.{Bool, true, false, cond}
-use mathlib.Core.List.{List, [], _∷_, map}
+use Prim.Native.Nat.{ℕ, _+_, _*_, _/_, _%_, _<_, _≤_}
+use mathlib.Core.Path.{_≡_, refl, sym, ap, subst, _∙_}
+use mathlib.Core.Bool.{true, false}
+use mathlib.Core.List.{List}
 use mathlib.Core.Logic.{_⊎_, inl, inr, ⊎-elim}
 use native.Mathlib.Omega.{arith}
-use lib.Dec.{eqb, ltb}
-use lib.ListN.{length, set}
+use lib.ListN.{length}
 use Rattle.std.specs.declared.option.Option.{Option}
 use Rattle.std.specs.declared.option.Option.the-variants.{Some, None}
 use Rattle.std.specs.Finite.{nth}
 use Rattle.std.proofs.shelf.Lists.{length-set, getD-past}
-use Rattle.std.proofs.shelf.Maps.{nth-past}
-use Rattle.std.proofs.shelf.Tests.{cases-eq, cases-lt, cases-bool, both-ways, eq-eqb, ne-eqb}
+use Rattle.std.proofs.shelf.Tests.{both-ways, eq-eqb}
 use Rattle.std.proofs.shelf.Bits.{le-div}
-use Rattle.flash.specs.Part.{Block, Part, Sound, noBlock, block, written, appended, wear}
+use Rattle.flash.specs.Part.{Block, Part, Sound, noBlock, written, appended, wear}
 use Rattle.flash.proofs.Keeps.{sound-appended}
 use Rattle.flash.proofs.Wear.{wear-appended}
-use Rattle.rules.specs.State.{Bytes, Entry, State, noPage, tally, blockCount, perBlock, flashPages, hostPages, names, leads, reach, content, inUse, isWritten, isClean, isPartWritten, cleanBlocks, hotness, held}
+use Rattle.rules.specs.State.{Bytes, Entry, State, noPage, blockCount, perBlock, flashPages, hostPages, names, leads, reach, content, inUse, isWritten, isClean, hotness, held}
 use Rattle.rules.specs.Tables.{nextPage, repoint}
-use Rattle.rules.specs.Store.{entryAt, Entered, Offers}
-use Rattle.rules.specs.Calls.{HasPartWritten, Takes, Ready, Stores, NoneOffered}
-use Rattle.rules.specs.Making.{Agree, Agrees}
-use Rattle.rules.specs.Stands.{EntryStands, StoreStands, Stands}
-use Rattle.rules.proofs.Tally.{tally-at, tally-find, one, one-le, one-false}
+use Rattle.rules.specs.Store.{entryAt, Entered}
+use Rattle.rules.specs.Calls.{Takes, Ready, NoneOffered}
+use Rattle.rules.specs.Making.{Agrees}
+use Rattle.rules.specs.Stands.{StoreStands, Stands}
+use Rattle.rules.proofs.Cases.{some-same}
+use Rattle.rules.proofs.Tally.{another}
 use Rattle.rules.proofs.Namers.{Fit, leads-cases, written-agrees}
 use Rattle.rules.proofs.Content.{content-new, content-old, content-stays, content-written, written-from, new-unwritten, new-inside}
-use Rattle.rules.proofs.Live.{live-from, live-find, live-written, live-same, reach-named}
+use Rattle.rules.proofs.Live.{live-written, reach-named}
 use Rattle.rules.proofs.LetGo.{repoint-agrees, reach-here, reach-other, repoint-part, repoint-hosts, repoint-shared, repoint-places, repoint-was, repoint-entry}
-use Rattle.rules.proofs.Blocks.{Single, takes-room, part-written-in, clean-in, single-appended, written-other}
+use Rattle.rules.proofs.Blocks.{takes-room, part-written-in, clean-in, single-appended, written-other}
 use Rattle.rules.proofs.Moving.{Mid, mid, stands, sizes, hosts, some-pages, fits-same}
 use Rattle.rules.proofs.Entering.{entered-cases, entered-length, entered-entry, entered-apart}
 
@@ -38,19 +37,6 @@ content-none print s h =
     ap (λ (y : Block). nth (y .pages) (noPage % perBlock s))
     (getD-past (s .part .blocks) (noPage / perBlock s) noBlock
     (le-div (blockCount s) noPage (perBlock s) (some-pages print s h) (sizes print s h .all)))
-
--- Of two clean blocks one is another than b.
-pub another : (f : ℕ → Bool) (n b : ℕ) → b < n → 2 ≤ tally f n → (c : ℕ) × (c < n) × (f c ≡ true) × (c ≡ b → ⊥)
-another f n b l two =
-    let g : ℕ → Bool = λ c. cond (eqb c b) false (f c) in
-    let at-b : g b ≡ false = ap (λ t. cond t false (f b)) (eq-eqb b b refl) in
-    let at-other : (c : ℕ) → (c ≡ b → ⊥) → f c ≡ g c = λ c ne. sym (ap (λ t. cond t false (f c)) (ne-eqb c b ne)) in
-    let r = tally-find g n (omega (arith, tally-at f g n b l (λ c m ne. at-other c ne), one-le (f b), one-false (g b) at-b)) in (
-      r .0,
-      r .1,
-      ⊎-elim (λ e. absurd (both-ways (g (r .0)) (ap g e ∙ at-b) (r .2))) (λ ne. at-other (r .0) ne ∙ r .2) (cases-eq (r .0) b),
-      λ e. both-ways (g (r .0)) (ap g e ∙ at-b) (r .2),
-    )
 
 module _ (print : Bytes → ℕ) (s : State) (n : ℕ) (x : Bytes) (b : ℕ) (after : List (Option Entry)) (h : Stands print s) (in-host : n < hostPages s)
     (whole : length x ≡ 256) (ready : Ready s) (none : NoneOffered print s x) (takes : Takes s b)
@@ -154,7 +140,7 @@ module _ (print : Bytes → ℕ) (s : State) (n : ℕ) (x : Bytes) (b : ℕ) (af
         subst (λ q. q < flashPages s) (sym page-is) inside,
         inr (page-is ∙ sym leads-new),
         new-one .1 ∙ ap (λ i. i % 16) (sym print-is),
-        λ y has. print-is ∙ ap print (let r = ap (content (v .part)) (sym page-is) ∙ has in some-same x y (sym fresh ∙ r)),
+        λ y has. print-is ∙ ap print (let r = ap (content (v .part)) (sym page-is) ∙ has in some-same (Some x) x y refl (sym fresh ∙ r)),
       ))
       (λ old-one. let st = h .stores .each k e old-one in (
         st .inside,
@@ -163,9 +149,6 @@ module _ (print : Bytes → ℕ) (s : State) (n : ℕ) (x : Bytes) (b : ℕ) (af
         λ y has. st .right y (sym (stays (e .page) (live-is-written (e .page) (st .inside) (st .live))) ∙ has),
       ))
       (v-entry k e is)
-    where
-      some-same : (y z : Bytes) → Some y ≡ Some z → y ≡ z
-      some-same y z e = cc
 
   -- A left entry was there before the word was set, and its page is in use.
   t-entry : (k : ℕ) (e : Entry) → entryAt (t .store) k ≡ Some e → (entryAt after k ≡ Some e) × (inUse t (e .page) ≡ true)

@@ -1,35 +1,33 @@
 -- A state that stands has what the rules need.
 use Prim.Native.Nat.{ℕ, zero, suc, _+_, _-_, _*_, _/_, _%_, _<_, _≤_}
-use mathlib.Core.Path.{_≡_, refl, sym, ap, subst, _∙_}
+use mathlib.Core.Path.{_≡_, refl, sym, ap, _∙_}
 use mathlib.Core.Bool.{Bool, true, false, cond, not, _&&_}
 use mathlib.Core.List.{List, [], _∷_}
 use mathlib.Core.Logic.{_⊎_, inl, inr, ⊎-elim}
-use native.Mathlib.Nat.{add-suc, suc-mul, mul-comm, div-add-mod'}
+use native.Mathlib.Nat.{add-suc, suc-mul, div-add-mod'}
 use native.Mathlib.Omega.{arith}
 use lib.Dec.{eqb, ltb}
 use lib.ListN.{length}
 use Rattle.std.specs.declared.option.Option.{Option}
 use Rattle.std.specs.declared.option.Option.the-variants.{Some, None}
 use Rattle.std.proofs.shelf.Lists.{getD-past}
-use Rattle.std.proofs.shelf.Tests.{cases-eq, cases-lt, cases-bool, eq-eqb, ne-eqb, eqb-true, lt-ltb, ltb-true, and-parts, both-ways}
+use Rattle.std.proofs.shelf.Tests.{cases-eq, cases-lt, cases-bool, eq-eqb, eqb-true, lt-ltb, ltb-true, and-parts, both-ways}
 use Rattle.std.proofs.shelf.Bits.{div-mul-add, mod-mul-add, div-below, mod-below}
 use Rattle.flash.specs.Part.{written}
-use Rattle.rules.specs.State.{Bytes, State, noPage, tally, blockCount, perBlock, flashPages, hostPages, names, inUse, isDead, isWritten, isClean, isClosed, isPartWritten, cleanBlocks, livePages, deadPages, pageMap}
+use Rattle.rules.specs.State.{Bytes, State, noPage, tally, blockCount, perBlock, flashPages, names, inUse, isDead, isWritten, isClean, cleanBlocks, deadPages, pageMap}
 use Rattle.rules.specs.Tables.{EntryFor}
-use Rattle.rules.specs.Calls.{HasPartWritten, deadIn, Collectable}
+use Rattle.rules.specs.Calls.{HasPartWritten, Collectable}
 use Rattle.rules.specs.Stands.{Stands}
 use Rattle.rules.specs.Promise.{contents}
-use Rattle.rules.proofs.Tally.{one, one-le, one-true, one-false, tally-same, tally-find, tally-pos, tally-mono, tally-split, tally-le}
+use Rattle.rules.proofs.Tally.{one-true, tally-find, tally-pos, tally-mono, tally-split, tally-le, tally-two}
 use Rattle.rules.proofs.Members.{In, Apart}
-use Rattle.rules.proofs.Distinct.{stands-in, distinct, stands-in-find, distinct-le, tally-distinct}
-use Rattle.rules.proofs.Crossing.{name-entry, name-past}
+use Rattle.rules.proofs.Distinct.{stands-in, distinct, stands-in-find, tally-distinct}
+use Rattle.rules.proofs.Crossing.{name-entry}
 use Rattle.rules.proofs.Content.{written-inside}
-use Rattle.rules.proofs.Live.{live-written}
-use Rattle.rules.proofs.Blocks.{part-written-from, clean-in}
-use Rattle.rules.proofs.Moving.{Mid, mid, sizes, hosts, some-pages}
+use Rattle.rules.proofs.Blocks.{part-written-from}
+use Rattle.rules.proofs.Moving.{Mid, mid, sizes, some-pages}
 use Rattle.rules.proofs.Counting.{pages-few}
 use Rattle.rules.proofs.PageMaps.{map-length}
-use Rattle.rules.proofs.Readying.{tally-two}
 
 -- Some of the first numbers, then the next ones.
 tally-add : (f : ℕ → Bool) (m k : ℕ) → tally f (m + k) ≡ tally f m + tally (λ j. f (m + j)) k
@@ -150,7 +148,7 @@ entries-in s zero x i = absurd i
 entries-in s (suc n) x (inl is) = (n, omega arith, sym is)
 entries-in s (suc n) x (inr i) = let r = entries-in s n x i in (r .0, omega (arith, r .1), r .2)
 
-entries-apart : (print : Bytes → ℕ) (s : State) (n : ℕ) → Stands print s → ((e : ℕ) → e < n → names s (4096 + e) < noPage) → Apart (entries s n)
+entries-apart : (print : Bytes → ℕ) (s : State) (n : ℕ) → Mid print s → ((e : ℕ) → e < n → names s (4096 + e) < noPage) → Apart (entries s n)
 unfolding entries
 entries-apart print s zero h used = tt
 entries-apart print s (suc n) h used = (
@@ -160,7 +158,7 @@ entries-apart print s (suc n) h used = (
 )
 
 -- There are as many entries as flash pages: if all are in use, every page has an entry.
-pub free-entry : (print : Bytes → ℕ) (s : State) (q : ℕ) → Stands print s → q < flashPages s → inUse s q ≡ true → (e : ℕ) × EntryFor s q e
+pub free-entry : (print : Bytes → ℕ) (s : State) (q : ℕ) → Mid print s → q < flashPages s → inUse s q ≡ true → (e : ℕ) × EntryFor s q e
 free-entry print s q h inside live =
     ⊎-elim
     (λ own. let r = tally-find (λ e. eqb (names s (4096 + e)) q) (flashPages s) (ltb-true 0 _ own) in
@@ -172,11 +170,8 @@ free-entry print s q h inside live =
     (cases-bool (ltb 0 (tally (λ e. eqb (names s (4096 + e)) noPage) (flashPages s)))))
     (cases-bool (ltb 0 (tally (λ e. eqb (names s (4096 + e)) q) (flashPages s))))
   where
-    m : Mid print s
-    m = mid print s h
-
     small : q < noPage
-    small = omega (arith, inside, sizes print s m .all)
+    small = omega (arith, inside, sizes print s h .all)
 
     -- An entry that names a page is one of the flash pages' own.
     in-range : (d : ℕ) → names s (4096 + d) < noPage → d < flashPages s
@@ -208,7 +203,7 @@ free-entry print s q h inside live =
         let below-all : (x : ℕ) → In x (q ∷ xs) → x < flashPages s =
         λ x i. ⊎-elim (λ is. omega (arith, is, inside))
         (λ j. let r = entries-in s (flashPages s) x j in
-        written-inside (s .part) (some-pages print s m) x
+        written-inside (s .part) (some-pages print s h) x
         (ap (isWritten (s .part)) (sym (r .2)) ∙ h .agrees .there (4096 + r .0) (used (r .0) (r .1)))) i in
         omega (
           arith,

@@ -1,12 +1,11 @@
 -- Counting the numbers below a bound that pass a test.
-use Prim.Native.Nat.{ℕ, zero, suc, _+_, _*_, _<_, _≤_}
-use mathlib.Core.Path.{_≡_, refl, sym, ap, subst, _∙_}
+use Prim.Native.Nat.{ℕ, zero, suc, _+_, _<_, _≤_}
+use mathlib.Core.Path.{_≡_, refl, sym, ap, _∙_}
 use mathlib.Core.Bool.{Bool, true, false, not, cond, _&&_}
-use mathlib.Core.Logic.{_⊎_, inl, inr, ⊎-elim}
-use native.Mathlib.Nat.{mul-suc, add-assoc}
+use mathlib.Core.Logic.{_⊎_, ⊎-elim}
 use native.Mathlib.Omega.{arith}
-use lib.Dec.{eqb, ltb}
-use Rattle.std.proofs.shelf.Tests.{cases-bool, cases-eq, both-ways}
+use lib.Dec.{eqb}
+use Rattle.std.proofs.shelf.Tests.{cases-bool, cases-eq, both-ways, eq-eqb, ne-eqb}
 use Rattle.rules.specs.State.{tally}
 
 -- A passed test counts 1.
@@ -91,3 +90,29 @@ tally-split f g (suc n) = omega (arith, tally-split f g n, split-one (f n) (g n)
     split-one true false = refl
     split-one false true = refl
     split-one false false = refl
+
+-- The test without the number b.
+abbrev besides : (ℕ → Bool) → ℕ → ℕ → Bool
+besides f b k = cond (eqb k b) false (f k)
+
+besides-off : (f : ℕ → Bool) (b : ℕ) → besides f b b ≡ false
+besides-off f b = ap (λ t. cond t false (f b)) (eq-eqb b b refl)
+
+besides-on : (f : ℕ → Bool) (b k : ℕ) → (k ≡ b → ⊥) → f k ≡ besides f b k
+besides-on f b k ne = sym (ap (λ t. cond t false (f k)) (ne-eqb k b ne))
+
+tally-besides : (f : ℕ → Bool) (n b : ℕ) → b < n → tally (besides f b) n + one (f b) ≡ tally f n
+tally-besides f n b l =
+    omega (arith, tally-at f (besides f b) n b l (λ j m ne. besides-on f b j ne), one-false (besides f b b) (besides-off f b))
+
+-- Two different numbers that pass count at least two ..
+pub tally-two : (f : ℕ → Bool) (n c d : ℕ) → c < n → d < n → (d ≡ c → ⊥) → f c ≡ true → f d ≡ true → 2 ≤ tally f n
+tally-two f n c d in-c in-d ne at-c at-d =
+    omega (arith, tally-besides f n c in-c, one-true (f c) at-c, tally-pos (besides f c) n d in-d (sym (besides-on f c d ne) ∙ at-d))
+
+-- .. and of two that pass one is another than b.
+pub another : (f : ℕ → Bool) (n b : ℕ) → b < n → 2 ≤ tally f n → (c : ℕ) × (c < n) × (f c ≡ true) × (c ≡ b → ⊥)
+another f n b l two =
+    let r = tally-find (besides f b) n (omega (arith, tally-besides f n b l, one-le (f b))) in
+    let apart : r .0 ≡ b → ⊥ = λ e. both-ways (besides f b (r .0)) (ap (besides f b) e ∙ besides-off f b) (r .2) in
+    (r .0, r .1, besides-on f b (r .0) apart ∙ r .2, apart)

@@ -180,8 +180,7 @@ start-made print =
             (record { room = lit≤ tt; wornAtMost = lit≤ tt; whole = λ k none. absurd (omega arith) });
         limit = lit≤ tt;
       },
-      (refl, λ b l ne. absurd (ne (ap (λ (x : Block). length (x .pages)) (getD-all 3 b noBlock)))),
-      refl,
+      ((refl, λ b l ne. absurd (ne (ap (λ (x : Block). length (x .pages)) (getD-all 3 b noBlock)))), refl),
     )
 
 start-ready : Ready exampleStart
@@ -335,7 +334,7 @@ example-life = (
 -- Any state after the first write: Z in block b, and some store.
 abbrev zIn : Bytes → ℕ → List (Option Entry) → State
 zIn Z b store =
-    repoint (record { part = programmed exampleStart b Z .part; words = exampleStart .words; shared = exampleStart .shared; store = store })
+    repoint (programmed exampleStart b Z store)
     0 (nextPage exampleStart b)
 
 module _ (print : Bytes → ℕ) (Z H : Bytes) (z-long : length Z ≡ 256) (h-long : length H ≡ 256) (z-h : Z ≡ H → ⊥) where

@@ -1,10 +1,9 @@
 -- The rule of each call: which answer it gives in a state, and the state after it.
 use Prim.Native.Nat.{ℕ, zero, suc, _+_, _*_, _<_, _≤_}
 use mathlib.Core.Path.{_≡_}
-use mathlib.Core.Bool.{Bool, true, false, cond}
+use mathlib.Core.Bool.{Bool, true, cond}
 use mathlib.Core.List.{List, [], _∷_, _++_}
 use mathlib.Core.Logic.{_⊎_}
-use lib.Dec.{ltb}
 use lib.ListN.{length}
 use Rattle.std.specs.declared.option.Option.{Option}
 use Rattle.std.specs.declared.option.Option.the-variants.{Some, None}
@@ -18,22 +17,23 @@ use Rattle.rules.specs.declared.kind.Kind.the-variants.{Stored, Shared, Unchan
 use Rattle.rules.specs.declared.answer.Written.{Written}
 use Rattle.rules.specs.declared.answer.Usage.{Usage}
 use Rattle.rules.specs.Numbers.{refusalNumber}
-use Rattle.rules.specs.State.{Bytes, Entry, State, noPage, tally, blockCount, perBlock, flashPages, hostPages, content, names, reach, inUse, isDead, hotness, isClean, isClosed, isPartWritten, cleanBlocks, inUseAt, liveIn, livePages, deadPages, unwrittenPages, held}
-use Rattle.rules.specs.Tables.{dies, withWord, letGo, repoint, EntryFor, lifted, merged, nextPage, programmed, movedTo, erasedBlock}
+use Rattle.rules.specs.State.{Bytes, Entry, State, noPage, tally, blockCount, perBlock, flashPages, hostPages, content, inUse, isDead, hotness, isClean, isClosed, isPartWritten, cleanBlocks, inUseAt, liveIn, livePages, deadPages, unwrittenPages, held}
+use Rattle.rules.specs.Tables.{repoint, EntryFor, lifted, merged, nextPage, programmed, movedTo, erasedBlock}
 use Rattle.rules.specs.Store.{Entered, Offers}
 
 -- Some block is part-written.
 abbrev pub HasPartWritten : State → Type 0
 HasPartWritten s = (b : ℕ) × (b < blockCount s) × (isPartWritten s b ≡ true)
 
--- Block b takes the next page that is programmed: it is part-written, or none is and it is a least erased clean one. Which of
--- several least erased clean blocks is left free.
+-- Block b is opened: no block is part-written, and it is a least erased clean one. Which of several is left free.
+abbrev pub Opens : State → ℕ → Type 0
+Opens s b =
+    (HasPartWritten s → ⊥) × (isClean s b ≡ true)
+    × ((c : ℕ) → c < blockCount s → isClean s c ≡ true → erases (s .part) b ≤ erases (s .part) c)
+
+-- Block b takes the next page that is programmed: it is part-written, or it is opened.
 abbrev pub Takes : State → ℕ → Type 0
-Takes s b =
-    (b < blockCount s)
-    × ((isPartWritten s b ≡ true)
-    ⊎ ((HasPartWritten s → ⊥) × (isClean s b ≡ true)
-    × ((c : ℕ) → c < blockCount s → isClean s c ≡ true → erases (s .part) b ≤ erases (s .part) c)))
+Takes s b = (b < blockCount s) × ((isPartWritten s b ≡ true) ⊎ Opens s b)
 
 -- How many pages of block b are dead.
 abbrev pub deadIn : State → ℕ → ℕ
@@ -65,14 +65,18 @@ Moves v s (k ∷ ks) t = (b : ℕ) × Takes s b × Moves v (movedTo s (v * perBl
 abbrev pub Collected : State → ℕ → State → Type 0
 Collected s v t = (u : State) × Moves v s (below (inUseAt s v) (perBlock s)) u × (t ≡ erasedBlock u v)
 
--- Collect answers the pages moved. It refuses with 7 if no closed block has a dead page, else with 3 if no such block can
--- be erased any more.
+-- Refused with 7: no closed block has a dead page.
+abbrev pub NothingDead : State → Refusal → Type 0
+NothingDead s e = (refusalNumber e ≡ 7) × ((b : ℕ) → Collectable s b → ⊥)
+
+-- Refused with 3: some closed block has a dead page, and no such block can be erased any more.
+abbrev pub AllWornOut : State → Refusal → Type 0
+AllWornOut s e = (refusalNumber e ≡ 3) × ((b : ℕ) × Collectable s b) × ((b : ℕ) → Candidate s b → ⊥)
+
+-- Collect answers the pages moved, or refuses.
 abbrev pub Collects : State → Result ℕ Refusal → State → Type 0
 Collects s (Ok moved) t = (v : ℕ) × Victim s v × (moved ≡ liveIn s v) × Collected s v t
-Collects s (Err e) t =
-    (t ≡ s)
-    × (((refusalNumber e ≡ 7) × ((b : ℕ) → Collectable s b → ⊥))
-    ⊎ ((refusalNumber e ≡ 3) × ((b : ℕ) × Collectable s b) × ((b : ℕ) → Candidate s b → ⊥)))
+Collects s (Err e) t = (t ≡ s) × (NothingDead s e ⊎ AllWornOut s e)
 
 -- A page can be stored at once: some block is part-written, or two are clean.
 abbrev pub Ready : State → Type 0
@@ -88,14 +92,13 @@ abbrev pub Stores : (Bytes → ℕ) → State → ℕ → Bytes → State → Ty
 Stores print s n x t =
     (b : ℕ) × (after : List (Option Entry)) × Takes s b
     × Entered (hotness s) (s .store) (record { print = print x; page = nextPage s b }) 1 after
-    × (t ≡ repoint
-    (record { part = programmed s b x .part; words = s .words; shared = s .shared; store = after }) n (nextPage s b))
+    × (t ≡ repoint (programmed s b x after) n (nextPage s b))
 
 -- Host page n holds just the bytes x.
 abbrev pub Holds : State → ℕ → Bytes → Type 0
 Holds s n x = held s n ≡ Some x
 
--- A page that the store offers for x, if there is one, is not of use unless it is there: none is offered.
+-- No entry of the store has the fingerprint of x on a page with equal bytes.
 abbrev pub NoneOffered : (Bytes → ℕ) → State → Bytes → Type 0
 NoneOffered print s x = (q : ℕ) → Offers print s x q → ⊥
 
@@ -108,30 +111,38 @@ WritesAs print s n x Shared moved t =
 WritesAs print s n x Stored moved t =
     (Holds s n x → ⊥) × NoneOffered print s x × ((u : State) × Readied s moved u × Stores print u n x t)
 
--- Write refuses with 4 if there is no host page n, else with 5 if x is not 256 bytes, else with 3 if the page would have
--- to be stored and nothing is ready or can be collected.
+-- Refused with 4: there is no host page n.
+abbrev pub NoHostPage : State → ℕ → Refusal → Type 0
+NoHostPage s n e = (refusalNumber e ≡ 4) × (hostPages s ≤ n)
+
+-- Refused with 5: host page n is there, and what was given is not 256 bytes long.
+abbrev pub WrongLength : State → ℕ → ℕ → Refusal → Type 0
+WrongLength s n len e = (refusalNumber e ≡ 5) × (n < hostPages s) × (len ≡ 256 → ⊥)
+
+-- Refused with 6: host page n is there, the length is right, and the page is empty.
+abbrev pub EmptyPage : State → ℕ → ℕ → Refusal → Type 0
+EmptyPage s n len e = (refusalNumber e ≡ 6) × (n < hostPages s) × (len ≡ 256) × (held s n ≡ None)
+
+-- Refused with 3: the bytes would have to be stored, no block is ready for them, and none can be collected.
+abbrev pub NoRoom : (Bytes → ℕ) → State → ℕ → Bytes → Refusal → Type 0
+NoRoom print s n x e =
+    (refusalNumber e ≡ 3) × (n < hostPages s) × (length x ≡ 256) × (Holds s n x → ⊥) × NoneOffered print s x
+    × (Ready s → ⊥) × ((b : ℕ) → Candidate s b → ⊥)
+
+-- Write answers the kind and the pages moved, or refuses.
 abbrev pub Writes : (Bytes → ℕ) → State → ℕ → Bytes → Result Written Refusal → State → Type 0
 Writes print s n x (Ok w) t = (n < hostPages s) × (length x ≡ 256) × WritesAs print s n x (w .kind) (w .moved) t
-Writes print s n x (Err e) t =
-    (t ≡ s)
-    × (((refusalNumber e ≡ 4) × (hostPages s ≤ n))
-    ⊎ (((refusalNumber e ≡ 5) × (n < hostPages s) × (length x ≡ 256 → ⊥))
-    ⊎ ((refusalNumber e ≡ 3) × (n < hostPages s) × (length x ≡ 256) × (Holds s n x → ⊥) × NoneOffered print s x
-    × (Ready s → ⊥) × ((b : ℕ) → Candidate s b → ⊥))))
+Writes print s n x (Err e) t = (t ≡ s) × (NoHostPage s n e ⊎ (WrongLength s n (length x) e ⊎ NoRoom print s n x e))
 
--- Read gives what host page n holds. It refuses with 4, else with 5 for a buffer that is not 256 bytes, else with 6 if the page is empty.
+-- Read gives what host page n holds, or refuses; `len` is the length of the buffer.
 abbrev pub Reads : State → ℕ → ℕ → Result Bytes Refusal → State → Type 0
 Reads s n len (Ok x) t = (t ≡ s) × (n < hostPages s) × (len ≡ 256) × (held s n ≡ Some x)
-Reads s n len (Err e) t =
-    (t ≡ s)
-    × (((refusalNumber e ≡ 4) × (hostPages s ≤ n))
-    ⊎ (((refusalNumber e ≡ 5) × (n < hostPages s) × (len ≡ 256 → ⊥))
-    ⊎ ((refusalNumber e ≡ 6) × (n < hostPages s) × (len ≡ 256) × (held s n ≡ None))))
+Reads s n len (Err e) t = (t ≡ s) × (NoHostPage s n e ⊎ (WrongLength s n len e ⊎ EmptyPage s n len e))
 
--- Trim empties host page n, and answers 1 if it had content, else 0. It refuses with 4.
+-- Trim empties host page n, and answers 1 if it had content, else 0; or it refuses.
 abbrev pub Trims : State → ℕ → Result ℕ Refusal → State → Type 0
 Trims s n (Ok had) t = (n < hostPages s) × (had ≡ cond (isSome (held s n)) 1 0) × (t ≡ repoint s n noPage)
-Trims s n (Err e) t = (t ≡ s) × (refusalNumber e ≡ 4) × (hostPages s ≤ n)
+Trims s n (Err e) t = (t ≡ s) × NoHostPage s n e
 
 -- Flash pages i and j are in use and have equal content.
 abbrev pub Copies : State → ℕ → ℕ → Type 0

@@ -1,6 +1,6 @@
 -- The image: the tables as blocks of words.
 use Prim.Native.Nat.{ℕ, zero, suc, _+_, _*_, _/_, _%_}
-use mathlib.Core.List.{List, [], _∷_, _++_, map}
+use mathlib.Core.List.{List, [], _∷_, _++_}
 use lib.ListN.{length, take, drop, replicate}
 use Rattle.flash.specs.Part.{Block}
 use Rattle.rules.specs.State.{State, blockCount, perBlock, flashPages, hostPages}

@@ -8,7 +8,11 @@ use lib.Dec.{eqb, leb}
 use lib.ListN.{length, replicate}
 use Rattle.std.specs.declared.option.Option.{Option}
 use Rattle.std.specs.declared.option.Option.the-variants.{Some, None}
+use Rattle.std.specs.declared.result.Result.{Result}
+use Rattle.std.specs.declared.result.Result.the-variants.{Ok, Err}
 use Rattle.flash.specs.Part.{Block, Part, Sound, written, erases}
+use Rattle.rules.specs.declared.refusal.Refusal.{Refusal}
+use Rattle.rules.specs.Numbers.{refusalNumber}
 use Rattle.rules.specs.State.{Bytes, Entry, State, noPage, flashPages, blockCount, hostPages, content, names, isWritten, inUse, hotness, isClean, isPartWritten}
 use Rattle.rules.specs.Store.{Entered, Offers}
 use Rattle.rules.specs.Calls.{below}
@@ -50,6 +54,14 @@ formatted p host =
       store = replicate 256 None;
     }
 
+-- Format hands back the state, or refuses: with 1 or 2 for the sizes, else with 3 if a block that is not clean is worn out.
+abbrev pub Formats : Part → ℕ → Result State Refusal → Type 0
+Formats p host (Ok s) = FormatAccepts p host × (s ≡ formatted p host)
+Formats p host (Err e) =
+    ((SizesFit p host → ⊥) × (refusalNumber e ≡ sizeRefusal (length (p .blocks)) (p .perBlock) host))
+    ⊎ (SizesFit p host × (refusalNumber e ≡ 3)
+    × ((b : ℕ) × (b < length (p .blocks)) × (written p b ≡ 0 → ⊥) × (p .endurance ≤ erases p b)))
+
 -- Words and entries agree with a part. `f` is what the namers hold, `isWritten` which flash pages are written, and `host`
 -- the number of host pages. A word names no free entry; an entry names a page or none; no flash page has two namers; a named
 -- page is written; an entry that names a page is named by some word.
@@ -90,5 +102,5 @@ pub record Loaded (print : Bytes → ℕ) (s : State) : Type 0 where
 -- A device is made by an accepted format or load of a well-formed part.
 abbrev pub Made : (Bytes → ℕ) → State → Type 0
 Made print s =
-    ((p : Part) × (host : ℕ) × Sound p × FormatAccepts p host × (s ≡ formatted p host))
+    ((p : Part) × (host : ℕ) × Sound p × Formats p host (Ok s))
     ⊎ (Sound (s .part) × Loaded print s)

@@ -3,7 +3,6 @@ use Prim.Native.Nat.{ℕ, _/_, _%_, _<_}
 use mathlib.Core.Path.{_≡_}
 use mathlib.Core.Bool.{true}
 use lib.ListN.{length}
-use Rattle.std.specs.declared.option.Option.{Option}
 use Rattle.std.specs.declared.option.Option.the-variants.{Some}
 use Rattle.flash.specs.Part.{Sound}
 use Rattle.rules.specs.State.{Bytes, Entry, State, flashPages, hostPages, content, inUse}

@@ -1,6 +1,5 @@
 -- The state of a made device, and the words of the subject over it.
-use Prim.Native.Nat.{ℕ, zero, suc, _+_, _-_, _*_, _/_, _%_, _<_, _≤_, min}
-use mathlib.Core.Path.{_≡_}
+use Prim.Native.Nat.{ℕ, zero, suc, _+_, _-_, _*_, _/_, _%_, min}
 use mathlib.Core.Bool.{Bool, cond, not, _&&_}
 use mathlib.Core.List.{List, map}
 use lib.Dec.{eqb, ltb}
@@ -8,7 +7,7 @@ use lib.ListN.{length, getD}
 use Rattle.std.specs.declared.option.Option.{Option}
 use Rattle.std.specs.Finite.{nth}
 use Rattle.std.specs.Iters.{counting}
-use Rattle.flash.specs.Part.{Part, block, written, erases}
+use Rattle.flash.specs.Part.{Part, block, written}
 
 -- A page's bytes, 256 of them where it is a whole page.
 abbrev pub Bytes : Type 0

@@ -1,11 +1,11 @@
 -- The fingerprint store: 256 places in 16 segments of 16. Fingerprint f belongs in segment f mod 16.
-use Prim.Native.Nat.{ℕ, _+_, _*_, _/_, _%_, _<_, _≤_}
+use Prim.Native.Nat.{ℕ, _/_, _%_, _<_, _≤_}
 use mathlib.Core.Path.{_≡_}
-use mathlib.Core.List.{List, [], _∷_}
-use lib.ListN.{length, getD, set}
+use mathlib.Core.List.{List}
+use lib.ListN.{getD, set}
 use Rattle.std.specs.declared.option.Option.{Option}
 use Rattle.std.specs.declared.option.Option.the-variants.{Some, None}
-use Rattle.rules.specs.State.{Bytes, Entry, State, content, inUse, hotness}
+use Rattle.rules.specs.State.{Bytes, Entry, State, content}
 
 -- What stands at place k of a store.
 abbrev pub entryAt : List (Option Entry) → ℕ → Option Entry

@@ -1,5 +1,5 @@
 -- The small changes that the rules are made of, each a function of the state and of the choices that the rules leave free.
-use Prim.Native.Nat.{ℕ, _+_, _-_, _*_, _<_, _≤_}
+use Prim.Native.Nat.{ℕ, _+_, _-_, _*_, _<_}
 use mathlib.Core.Path.{_≡_}
 use mathlib.Core.Bool.{Bool, cond}
 use mathlib.Core.List.{List, [], map}
@@ -9,8 +9,8 @@ use lib.ListN.{set}
 use Rattle.std.specs.declared.option.Option.{Option}
 use Rattle.std.specs.declared.option.Option.the-variants.{Some, None}
 use Rattle.std.specs.Options.{valueOr}
-use Rattle.flash.specs.Part.{Part, written, appended, erased}
-use Rattle.rules.specs.State.{Bytes, Entry, State, noPage, tally, flashPages, perBlock, hostPages, content, names, leads, reach}
+use Rattle.flash.specs.Part.{written, appended, erased}
+use Rattle.rules.specs.State.{Bytes, Entry, State, noPage, tally, flashPages, perBlock, hostPages, content, names, leads}
 
 -- The place without its entry, if that is the entry of flash page q.
 abbrev pub without : ℕ → Option Entry → Option Entry
@@ -75,9 +75,9 @@ merged s i j e =
 abbrev pub nextPage : State → ℕ → ℕ
 nextPage s b = b * perBlock s + written (s .part) b
 
--- The bytes x are programmed in the next page of block b.
-abbrev pub programmed : State → ℕ → Bytes → State
-programmed s b x = record { part = appended (s .part) b x; words = s .words; shared = s .shared; store = s .store }
+-- The bytes x are programmed in the next page of block b, and the store becomes `after`.
+abbrev pub programmed : State → ℕ → Bytes → List (Option Entry) → State
+programmed s b x after = record { part = appended (s .part) b x; words = s .words; shared = s .shared; store = after }
 
 -- q′ in place of q.
 abbrev pub renamed : ℕ → ℕ → ℕ → ℕ

@@ -2,7 +2,6 @@
 use Prim.Native.Nat.{ℕ, _<_}
 use mathlib.Core.Path.{_≡_}
 use mathlib.Core.Bool.{true, false}
-use mathlib.Core.Logic.{_⊎_}
 use Rattle.rules.specs.declared.answer.Answer.{Answer}
 use Rattle.rules.specs.State.{Bytes, State, flashPages, inUse, cleanBlocks, pageMap}
 use Rattle.rules.specs.Tables.{EntryFor}
@@ -47,3 +46,7 @@ pub record HasWhatRulesNeed : Type 0 where
   -- After the collection that a write makes, the page can be stored.
   pub readyAfter : (print : Bytes → ℕ) (s : State) (v : ℕ) (t : State) → Stands print s → (Ready s → ⊥) → Victim s v → Collected s v t
       → Ready t
+
+-- The rules leave no call without an answer: in a state that stands, every call has one.
+abbrev pub EveryCallAnswered : Type 0
+EveryCallAnswered = (print : Bytes → ℕ) (s : State) (c : Call) → Stands print s → (a : Answer) × (t : State) × Step print s c a t

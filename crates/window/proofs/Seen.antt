@@ -7,7 +7,7 @@ use lib.Dec.{ltb}
 use lib.ListN.{length, getD, set, take, drop}
 use lib.Seq.{take-set-lt}
 use Rattle.std.proofs.shelf.Lists.{length-take, length-drop, getD-take, getD-drop, drop-set-add, getD-past}
-use Rattle.flash.specs.Part.{Block, Part, SoundBlock, Sound, noBlock, block, written, erases, content, withBlock, appended, erased}
+use Rattle.flash.specs.Part.{Block, Part, SoundBlock, Sound, noBlock, block, erases, content, withBlock, appended, erased}
 use Rattle.flash.specs.Answers.{Answer, programAnswer, readAnswer, eraseAnswer, either}
 use Rattle.flash.proofs.Alike.{program-alike, read-alike, erase-alike, either-by}
 use Rattle.window.specs.Shown.{windowOf}

@@ -1,4 +1,4 @@
-use Prim.Native.Nat.{ℕ, _+_}
+use Prim.Native.Nat.{ℕ}
 use mathlib.Core.Path.{_≡_, refl, sym, _∙_, ap}
 use mathlib.Core.Bool.{true, false}
 use native.Mathlib.Omega.{arith}
@@ -14,10 +14,9 @@ pub returns-then-not-first-second : need.returns-then-not-first-second
 returns-then-not-first-second c =
     let a = c .args .a .now in
     let b = c .args .b .now in
-    let i = c .loop-i .i in
     let at : a ≡ b → (k : ℕ) → eqb (getD a k 0) (getD b k 0) ≡ true = λ e k. eq-eqb (getD a k 0) (getD b k 0) (ap (λ xs. getD xs k 0) e) in
     let apart : a ≡ b → ⊥ = λ e. both-ways _ (c .if-not-first-second .taken)
-    (and-from _ _ (and-from _ _ (at e i) (at e (i + 1))) (and-from _ _ (at e (i + 2)) (at e (i + 3)))) in
+    (and-from _ _ (and-from _ _ (at e _) (at e _)) (and-from _ _ (at e _) (at e _))) in
     record { value = sym (false-from-different a b apart); same = λ t. absurd (both-ways false refl t); different = λ _. apart }
 
 -- at the end every byte has agreed

@@ -1,4 +1,5 @@
 use mathlib.Core.Path.{refl}
+use Rattle.rules.proofs.Answered.{every-call-answered}
 use Rattle.rules.proofs.Decided.{answers-decided}
 use Rattle.rules.proofs.Gathered.{always-stands, answers-as-page-map, keeps-pages, has-what-rules-need}
 use Rattle.rules.proofs.theorems.theorems_hold.Needs as need
@@ -9,6 +10,7 @@ returns c = record {
   stands = always-stands;
   plain = answers-as-page-map;
   decided = answers-decided;
+  answered = every-call-answered;
   kept = keeps-pages;
   supplied = has-what-rules-need;
 }

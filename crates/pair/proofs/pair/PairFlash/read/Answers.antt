@@ -1,4 +1,4 @@
-use mathlib.Core.Path.{ap}
+use mathlib.Core.Path.{refl, ap}
 use Rattle.pair.specs.Shown.{pairOf}
 use Rattle.pair.proofs.Seen.{seen-read, seen-content}
 use Rattle.pair.proofs.Sides.{seen-first, seen-second}
@@ -14,6 +14,8 @@ returns-in-First g c =
       answer = seen-read (λ y. pairOf y q) p _ _ v _ _ (c .read .ensures .answer);
       buffer = seen-content (λ y. pairOf y q) p _ _ v (c .args .page) (c .args .buffer .now) _ (c .read .result) (c .read .ensures .buffer);
       after = ap (λ y. pairOf y q) (c .read .ensures .after);
+      first = c .read .ensures .after;
+      second = refl;
     }
 
 pub returns-in-Second : need.returns-in-Second
@@ -26,4 +28,6 @@ returns-in-Second g c =
       answer = seen-read (pairOf p) q _ _ v _ _ (c .read-in-Second .ensures .answer);
       buffer = seen-content (pairOf p) q _ _ v (c .args .page) (c .args .buffer .now) _ (c .read-in-Second .result) (c .read-in-Second .ensures .buffer);
       after = ap (pairOf p) (c .read-in-Second .ensures .after);
+      first = refl;
+      second = c .read-in-Second .ensures .after;
     }
