@@ -5,6 +5,7 @@ use mathlib.Core.List.{List}
 use lib.ListN.{length}
 use Rattle.flash.specs.Part.{Part, Sound, written, erases, content, appended, erased, wear}
 
+-- The laws, gathered.
 pub record Laws : Type 0 where
   -- A page of 256 bytes in a block that has room, and an erase of a block that is not worn out, keep a part well-formed.
   pub programKeeps : (p : Part) (b : ℕ) (x : List ℕ)

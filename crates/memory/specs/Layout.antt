@@ -27,17 +27,19 @@ recordAt P b = b * recordSize P
 abbrev pub pageAt : ℕ → ℕ → ℕ → ℕ
 pageAt P b k = recordAt P b + (8 + 256 * k)
 
--- The number in two, and in four, bytes from i on, the lowest byte first.
+-- The number in two bytes from i on, the lowest byte first.
 abbrev pub number16 : List ℕ → ℕ → ℕ
 number16 m i = getD m i 0 + getD m (i + 1) 0 * 256
 
+-- .. and in four bytes.
 abbrev pub number32 : List ℕ → ℕ → ℕ
 number32 m i = getD m i 0 + getD m (i + 1) 0 * 256 + getD m (i + 2) 0 * 65536 + getD m (i + 3) 0 * 16777216
 
--- A number as two, and as four, bytes, the lowest first.
+-- A number as two bytes, the lowest first.
 abbrev pub bytes16 : ℕ → List ℕ
 bytes16 n = (n % 256) ∷ (n / 256 % 256) ∷ []
 
+-- .. and as four bytes.
 abbrev pub bytes32 : ℕ → List ℕ
 bytes32 n = (n % 256) ∷ (n / 256 % 256) ∷ (n / 65536 % 256) ∷ (n / 16777216 % 256) ∷ []
 

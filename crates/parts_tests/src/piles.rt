@@ -38,6 +38,21 @@ fn memory_wears_out() -> Result<(), Fail> {
 }
 
 #[test]
+fn piles_wear_out() -> Result<(), Fail> {
+    let mut first = [0; ONE];
+    let mut second = [0; THREE];
+    let mut pair = Pair::new(
+        MemoryPart::fresh(&mut first, PAGES, 9),
+        MemoryPart::fresh(&mut second, PAGES, 0),
+    );
+    check_eq(code(pair.erase(0)), 19)?;
+    check_eq(code(pair.erase(1)), 19)?;
+    let mut window = Window::new(pair, 1, 1);
+    check_eq(code(window.erase(0)), 19)?;
+    check_eq(code(window.erase(1)), 16)
+}
+
+#[test]
 fn window_refuses() -> Result<(), Fail> {
     let mut bytes = [0; THREE];
     let mut buffer = [1; 256];

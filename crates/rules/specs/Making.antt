@@ -72,6 +72,7 @@ pub record Agree (f : ℕ → ℕ) (isWritten : ℕ → Bool) (host : ℕ) : Typ
   pub there : (k : ℕ) → f k < noPage → isWritten (f k) ≡ true
   pub alive : (k : ℕ) → 4096 ≤ k → f k < noPage → (n : ℕ) × (n < host) × (f n ≡ k)
 
+-- The words and entries of a device agree with its part.
 abbrev pub Agrees : State → Type 0
 Agrees s = Agree (names s) (isWritten (s .part)) (hostPages s)
 

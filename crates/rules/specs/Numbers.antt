@@ -5,6 +5,7 @@ use Rattle.rules.specs.declared.refusal.Refusal.the-variants.{Geometry, HostPa
 use Rattle.rules.specs.declared.kind.Kind.{Kind}
 use Rattle.rules.specs.declared.kind.Kind.the-variants.{Stored, Shared, Unchanged}
 
+-- The number of each refusal of the layer. A flash part's own refusals have 16 to 19.
 abbrev pub refusalNumber : Refusal → ℕ
 refusalNumber Geometry = 1
 refusalNumber HostPages = 2
@@ -23,6 +24,7 @@ refusalNumber Contradiction = 14
 refusalNumber FlashState = 15
 refusalNumber NoMemory = 255
 
+-- The number of each kind of accepted write.
 abbrev pub kindNumber : Kind → ℕ
 kindNumber Stored = 0
 kindNumber Shared = 1

@@ -23,6 +23,7 @@ pub data Seen : Type 0 where
   bytes : Bytes → Seen
   number : ℕ → Seen
 
+-- What the host sees of each answer.
 abbrev pub seen : Answer → Seen
 seen (Refused e) = refused (refusalNumber e)
 seen (Wrote w) = accepted
@@ -91,8 +92,7 @@ abbrev pub storedAndMoved : List (Call × Answer) → ℕ
 storedAndMoved [] = 0
 storedAndMoved (h ∷ hs) = (storedBy (h .0) (h .1) + movedBy (h .0) (h .1)) + storedAndMoved hs
 
--- Was a scan the last call that could change what is shared? `so` says it of the calls before: a scan makes it true, an
--- accepted write or trim makes it false.
+-- Is an answer a refusal?
 abbrev pub isRefusal : Answer → Bool
 isRefusal (Refused e) = true
 isRefusal (Wrote w) = false
@@ -100,6 +100,8 @@ isRefusal (Page x) = false
 isRefusal (Number k) = false
 isRefusal (Used u) = false
 
+-- Has a scan come with no write or trim accepted since? `so` says it of the calls before: a scan makes it true, an accepted
+-- write or trim false, and any other call leaves it.
 abbrev pub settledBy : Bool → Call → Answer → Bool
 settledBy so (write n x) a = cond (isRefusal a) so false
 settledBy so (read n len) a = so
@@ -109,6 +111,7 @@ settledBy so scan a = true
 settledBy so usage a = so
 settledBy so (save len) a = so
 
+-- .. over a list of calls.
 abbrev pub settledFrom : Bool → List (Call × Answer) → Bool
 settledFrom so [] = so
 settledFrom so (h ∷ hs) = settledFrom (settledBy so (h .0) (h .1)) hs

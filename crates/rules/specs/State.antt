@@ -35,9 +35,11 @@ abbrev pub tally : (ℕ → Bool) → ℕ → ℕ
 tally f zero = 0
 tally f (suc n) = tally f n + cond (f n) 1 0
 
+-- The number of blocks.
 abbrev pub blockCount : State → ℕ
 blockCount s = length (s .part .blocks)
 
+-- The pages that a block has room for.
 abbrev pub perBlock : State → ℕ
 perBlock s = s .part .perBlock
 
@@ -45,6 +47,7 @@ perBlock s = s .part .perBlock
 abbrev pub flashPages : State → ℕ
 flashPages s = blockCount s * perBlock s
 
+-- The number of host pages.
 abbrev pub hostPages : State → ℕ
 hostPages s = length (s .words)
 
@@ -61,6 +64,7 @@ isWritten p q = ltb (q % p .perBlock) (written p (q / p .perBlock))
 abbrev pub name : List ℕ → List ℕ → ℕ → ℕ
 name words shared k = cond (ltb k 4096) (getD words k noPage) (getD shared (k - 4096) noPage)
 
+-- What the namers of a device hold.
 abbrev pub names : State → ℕ → ℕ
 names s = name (s .words) (s .shared)
 
@@ -88,13 +92,15 @@ isDead s q = isWritten (s .part) q && not (inUse s q)
 abbrev pub hotness : State → ℕ → ℕ
 hotness s q = min 255 (references s q)
 
--- The kinds of a block, by its pages written: none, all, or some.
+-- A block is clean if none of its pages is written ..
 abbrev pub isClean : State → ℕ → Bool
 isClean s b = eqb (written (s .part) b) 0
 
+-- .. closed if all are ..
 abbrev pub isClosed : State → ℕ → Bool
 isClosed s b = eqb (written (s .part) b) (perBlock s)
 
+-- .. and part-written if some are.
 abbrev pub isPartWritten : State → ℕ → Bool
 isPartWritten s b = ltb 0 (written (s .part) b) && ltb (written (s .part) b) (perBlock s)
 
@@ -102,20 +108,23 @@ isPartWritten s b = ltb 0 (written (s .part) b) && ltb (written (s .part) b) (pe
 abbrev pub cleanBlocks : State → ℕ
 cleanBlocks s = tally (isClean s) (blockCount s)
 
--- A block's pages in use, and how many they are.
+-- Is page k of block b in use?
 abbrev pub inUseAt : State → ℕ → ℕ → Bool
 inUseAt s b k = inUse s (b * perBlock s + k)
 
+-- How many pages of block b are in use.
 abbrev pub liveIn : State → ℕ → ℕ
 liveIn s b = tally (inUseAt s b) (perBlock s)
 
--- Flash pages in use, dead and unwritten.
+-- How many flash pages are in use ..
 abbrev pub livePages : State → ℕ
 livePages s = tally (inUse s) (flashPages s)
 
+-- .. dead ..
 abbrev pub deadPages : State → ℕ
 deadPages s = tally (isDead s) (flashPages s)
 
+-- .. and unwritten.
 abbrev pub unwrittenPages : State → ℕ
 unwrittenPages s = tally (λ q. not (isWritten (s .part) q)) (flashPages s)
 

@@ -79,10 +79,11 @@ nextPage s b = b * perBlock s + written (s .part) b
 abbrev pub programmed : State → ℕ → Bytes → List (Option Entry) → State
 programmed s b x after = record { part = appended (s .part) b x; words = s .words; shared = s .shared; store = after }
 
--- q′ in place of q.
+-- A namer's value with q′ in place of q.
 abbrev pub renamed : ℕ → ℕ → ℕ → ℕ
 renamed q q′ w = cond (eqb w q) q′ w
 
+-- A store entry with q′ in place of q.
 abbrev pub renamedEntry : ℕ → ℕ → Option Entry → Option Entry
 renamedEntry q q′ None = None
 renamedEntry q q′ (Some e) = Some (record { print = e .print; page = renamed q q′ (e .page) })

@@ -3,6 +3,8 @@ use crate::kind::Kind;
 use crate::kind::KindDebug;
 use crate::kind::KindPartialEq;
 use crate::refusal::Refusal;
+use crate::refusal::RefusalDebug;
+use crate::refusal::RefusalPartialEq;
 
 // An accepted write: the rule it took, and the pages that a collection moved for it.
 #[derive(Clone, Copy, PartialEq, Eq, Debug)]
@@ -19,7 +21,7 @@ pub struct Usage {
     pub unwritten: u32,
 }
 
-#[derive(Clone, Copy)]
+#[derive(Clone, Copy, PartialEq, Eq, Debug)]
 pub enum Answer {
     Refused(Refusal),
     Wrote(Written),

@@ -9,6 +9,8 @@ mod run;
 mod theorems;
 
 pub use answer::Answer;
+pub use answer::AnswerDebug;
+pub use answer::AnswerPartialEq;
 pub use answer::Usage;
 pub use answer::UsageDebug;
 pub use answer::UsagePartialEq;

@@ -1,4 +1,6 @@
-// Which sizes the rules accept.
+// What the rules accept, and that their promise is proved.
+use rules::promise_is_kept;
+use rules::theorems_hold;
 use rules::worked_sizes;
 use std::io;
 
@@ -15,5 +17,11 @@ pub(crate) fn demonstrate(rt: &LibcRuntime) -> io::Result<()> {
     println!(
         rt,
         "image of 255 blocks of 16 pages, 4063 host pages: {large} bytes"
+    )?;
+    let kept = promise_is_kept();
+    let held = theorems_hold();
+    println!(
+        rt,
+        "the promise is proved: {kept}; the theorems about the rules: {held}"
     )
 }
