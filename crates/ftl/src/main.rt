@@ -3,7 +3,7 @@ mod blocks;
 mod pages;
 mod parts;
 mod prints;
-mod rules_shown;
+mod promises;
 
 use memory::MemoryFlash;
 use memory::MemoryPart;
@@ -29,5 +29,5 @@ fn main(rt: LibcRuntime) -> io::Result<()> {
     let mut part = Window::new(pair, 1, 4);
     parts::demonstrate(&rt, &mut part)?;
     prints::demonstrate(&rt)?;
-    rules_shown::demonstrate(&rt)
+    promises::demonstrate(&rt)
 }
