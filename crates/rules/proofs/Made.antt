@@ -13,8 +13,9 @@ use Rattle.std.proofs.shelf.Lists.{length-map, length-replicate, getD-replicate
 use Rattle.std.proofs.shelf.Tests.{cases-eq, cases-lt, eq-eqb, ne-eqb, cond-true, cond-false}
 use Rattle.flash.specs.Part.{Block, Part, SoundBlock, Sound, noBlock, written, erases}
 use Rattle.rules.specs.State.{Bytes, Entry, State, noPage, blockCount, perBlock, flashPages, hostPages, names, content, inUse, hotness}
-use Rattle.rules.specs.Store.{entryAt, Entered, Offers}
-use Rattle.rules.specs.Calls.{below}
+use Rattle.rules.specs.Store.{entryAt, Entered}
+use Rattle.rules.specs.Tables.{withStore}
+use Rattle.rules.specs.Calls.{NoneOffered, below}
 use Rattle.rules.specs.Making.{sizeRefusal, SizesFit, cleared, FormatAccepts, formatted, Refilled, Loaded, Made}
 use Rattle.rules.specs.Stands.{EntryStands, Stands}
 use Rattle.rules.proofs.Sizes.{sizes-fit}
@@ -112,7 +113,7 @@ record Filled (print : Bytes → ℕ) (s : State) (store : List (Option Entry)) 
 
 refilled-one : (print : Bytes → ℕ) (s : State) (q : ℕ) (x : Bytes) (store next : List (Option Entry)) → q < flashPages s → inUse s q ≡ true
     → content (s .part) q ≡ Some x → Filled print s store
-    → ((p : ℕ) → Offers print (record { part = s .part; words = s .words; shared = s .shared; store = store }) x p → ⊥)
+    → NoneOffered print (withStore s store) x
     → Entered (hotness s) store (record { print = print x; page = q }) (hotness s q) next → Filled print s next
 refilled-one print s q x store next inside live has f none entered = record {
   places = entered-length (hotness s) store _ (hotness s q) next entered ∙ f .places;

@@ -15,7 +15,8 @@ use Rattle.rules.specs.declared.refusal.Refusal.{Refusal}
 use Rattle.rules.specs.Numbers.{refusalNumber}
 use Rattle.rules.specs.State.{Bytes, Entry, State, noPage, flashPages, blockCount, hostPages, content, names, isWritten, inUse, hotness, isClean, isPartWritten}
 use Rattle.rules.specs.Store.{Entered, Offers}
-use Rattle.rules.specs.Calls.{below}
+use Rattle.rules.specs.Tables.{withStore}
+use Rattle.rules.specs.Calls.{NoneOffered, below}
 
 -- 2 to 255 blocks, 1 to 64 pages a block, at most 4,095 flash pages.
 abbrev pub geometryFits : ℕ → ℕ → Bool
@@ -54,13 +55,20 @@ formatted p host =
       store = replicate 256 None;
     }
 
--- Format hands back the state, or refuses: with 1 or 2 for the sizes, else with 3 if a block that is not clean is worn out.
+-- Refused with 1 or 2: the sizes do not fit.
+abbrev pub SizesRefused : Part → ℕ → Refusal → Type 0
+SizesRefused p host e = (SizesFit p host → ⊥) × (refusalNumber e ≡ sizeRefusal (length (p .blocks)) (p .perBlock) host)
+
+-- Refused with 3: the sizes fit, and a block that is not clean is worn out.
+abbrev pub BlockWornOut : Part → ℕ → Refusal → Type 0
+BlockWornOut p host e =
+    SizesFit p host × (refusalNumber e ≡ 3)
+    × ((b : ℕ) × (b < length (p .blocks)) × (written p b ≡ 0 → ⊥) × (p .endurance ≤ erases p b))
+
+-- Format hands back the state, or refuses.
 abbrev pub Formats : Part → ℕ → Result State Refusal → Type 0
 Formats p host (Ok s) = FormatAccepts p host × (s ≡ formatted p host)
-Formats p host (Err e) =
-    ((SizesFit p host → ⊥) × (refusalNumber e ≡ sizeRefusal (length (p .blocks)) (p .perBlock) host))
-    ⊎ (SizesFit p host × (refusalNumber e ≡ 3)
-    × ((b : ℕ) × (b < length (p .blocks)) × (written p b ≡ 0 → ⊥) × (p .endurance ≤ erases p b)))
+Formats p host (Err e) = SizesRefused p host e ⊎ BlockWornOut p host e
 
 -- Words and entries agree with a part. `f` is what the namers hold, `isWritten` which flash pages are written, and `host`
 -- the number of host pages. A word names no free entry; an entry names a page or none; no flash page has two namers; a named
@@ -81,14 +89,18 @@ pub record BlocksStand (s : State) : Type 0 where
   pub spare : (b : ℕ) × (b < blockCount s) × (isClean s b ≡ true)
   pub single : (b c : ℕ) → b < blockCount s → c < blockCount s → isPartWritten s b ≡ true → isPartWritten s c ≡ true → b ≡ c
 
--- The store is filled from flash pages in use, in order, unless an entry with equal content stands already.
+-- Flash page q with the content x comes to a store that is being refilled: it is entered with its own hotness, unless an entry
+-- with equal content stands already.
+abbrev pub Refills : (Bytes → ℕ) → State → ℕ → Bytes → List (Option Entry) → List (Option Entry) → Type 0
+Refills print s q x store next =
+    (((p : ℕ) × Offers print (withStore s store) x p) × (next ≡ store))
+    ⊎ (NoneOffered print (withStore s store) x × Entered (hotness s) store (record { print = print x; page = q }) (hotness s q) next)
+
+-- The store is refilled from flash pages in use, in order.
 abbrev pub Refilled : (Bytes → ℕ) → State → List ℕ → List (Option Entry) → List (Option Entry) → Type 0
 Refilled print s [] store after = after ≡ store
 Refilled print s (q ∷ qs) store after =
-    (x : Bytes) × (next : List (Option Entry)) × (content (s .part) q ≡ Some x)
-    × ((((p : ℕ) × Offers print (record { part = s .part; words = s .words; shared = s .shared; store = store }) x p) × (next ≡ store))
-    ⊎ (((p : ℕ) → Offers print (record { part = s .part; words = s .words; shared = s .shared; store = store }) x p → ⊥)
-    × Entered (hotness s) store (record { print = print x; page = q }) (hotness s q) next))
+    (x : Bytes) × (next : List (Option Entry)) × (content (s .part) q ≡ Some x) × Refills print s q x store next
     × Refilled print s qs next after
 
 -- A state that load brings back: sizes that fit, words and entries that agree with the flash, and a store refilled from

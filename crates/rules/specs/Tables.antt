@@ -17,9 +17,13 @@ abbrev pub without : ℕ → Option Entry → Option Entry
 without q None = None
 without q (Some e) = cond (eqb (e .page) q) None (Some e)
 
+-- The device with another store.
+abbrev pub withStore : State → List (Option Entry) → State
+withStore s store = record { part = s .part; words = s .words; shared = s .shared; store = store }
+
 -- Flash page q dies: its store entry goes.
 abbrev pub dies : State → ℕ → State
-dies s q = record { part = s .part; words = s .words; shared = s .shared; store = map (without q) (s .store) }
+dies s q = withStore s (map (without q) (s .store))
 
 -- Host page n's word becomes w.
 abbrev pub withWord : State → ℕ → ℕ → State
