@@ -16,7 +16,7 @@ returns-then-not-first-second c =
     let b = c .args .b .now in
     let at : a ≡ b → (k : ℕ) → eqb (getD a k 0) (getD b k 0) ≡ true = λ e k. eq-eqb (getD a k 0) (getD b k 0) (ap (λ xs. getD xs k 0) e) in
     let apart : a ≡ b → ⊥ = λ e. both-ways _ (c .if-not-first-second .taken)
-    (and-from _ _ (and-from _ _ (at e _) (at e _)) (and-from _ _ (at e _) (at e _))) in
+    (and-from _ _ (and-from _ _ (and-from _ _ (at e _) (at e _)) (and-from _ _ (at e _) (at e _))) (and-from _ _ (and-from _ _ (at e _) (at e _)) (and-from _ _ (at e _) (at e _)))) in
     record { value = sym (false-from-different a b apart); same = λ t. absurd (both-ways false refl t); different = λ _. apart }
 
 -- at the end every byte has agreed
