@@ -18,8 +18,6 @@ pub(crate) fn demonstrate<F: Flash>(rt: &LibcRuntime, part: &mut F) -> io::Resul
     show_blocks(rt, part)?;
     for tariff in 0..TARIFFS {
         store(rt, part, tariff)?;
-    }
-    for tariff in 0..TARIFFS {
         read_back(rt, part, tariff)?;
     }
     let out_of_turn = part.program(2, 1, &tariff_page(9));
