@@ -1,4 +1,6 @@
 // Fingerprints of pages: an interface, and two kinds of it.
+#![tactic(auto)]
+
 mod checksum;
 mod examples;
 mod fingerprint;

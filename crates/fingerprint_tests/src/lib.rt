@@ -1,4 +1,6 @@
 // Code over any fingerprint, and tests of the fingerprints and of the equality of pages.
+#![tactic(auto)]
+
 #[cfg(test)]
 mod fletcher_tests;
 #[cfg(test)]

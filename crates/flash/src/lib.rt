@@ -1,4 +1,6 @@
 // What a flash part means, and the interface that every part has.
+#![tactic(auto)]
+
 mod flash;
 mod laws;
 mod refusal;

@@ -1,4 +1,6 @@
 // The layer's demonstration: it does one task after the other on parts in memory, and prints what it did.
+#![tactic(auto)]
+
 mod blocks;
 mod pages;
 mod parts;

@@ -1,4 +1,6 @@
 // The one search for a least record, over any record kind that has a total order.
+#![tactic(auto)]
+
 mod order;
 mod search;
 

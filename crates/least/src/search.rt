@@ -4,7 +4,7 @@ use crate::order::Order;
 
 // The place of a least record, or none where there are no records. A later record takes the place only if it is below the best so far.
 pub fn least<T: Order>(records: &[T]) -> Option<usize>
-    ensures answer { LeastOrNone at_most records.now result }
+    ensures answer { LeastOrNone T.at_most records.now result }
 {
     if records.is_empty() {
         return None;

@@ -1,4 +1,6 @@
 // Two record kinds of different shape that join the search for a least record, and tests of the search over them.
+#![tactic(auto)]
+
 mod block;
 mod entry;
 #[cfg(test)]

@@ -1,4 +1,6 @@
 // A flash part in the caller's memory.
+#![tactic(auto)]
+
 mod bytes;
 mod layout;
 mod memory_part;

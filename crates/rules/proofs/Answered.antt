@@ -44,8 +44,8 @@ content_self : (o : Option Bytes) → same_content o o ≡ true
 content_self None = refl
 content_self (Some x) = same_from_equal x x refl
 
-same_content : (o p : Option Bytes) → o ≡ p → same_content o p ≡ true
-same_content o p e = ap (same_content o) (sym e) ∙ content_self o
+same_content_if_equal : (o p : Option Bytes) → o ≡ p → same_content o p ≡ true
+same_content_if_equal o p e = ap (same_content o) (sym e) ∙ content_self o
 
 -- Whether the store offers a page for x.
 offers_or : (print : Bytes → ℕ) (s : State) (x : Bytes) → Stands print s → ((q : ℕ) × Offers print s x q) ⊎ NoneOffered print s x
@@ -53,7 +53,7 @@ offers_or print s x h =
     ⊎_elim
     (λ none. inr (λ q o. both_ways (offer (entry_at s.store o.0)) (none o.0 (place o))
     (ap offer o.1 ∙ and_from (eqb (print x) (print x)) (same_content (content s.part q) (Some x)) (eq-eqb (print x) (print x) refl)
-    (same_content (content s.part q) (Some x) o.2))))
+    (same_content_if_equal (content s.part q) (Some x) o.2))))
     (λ k. let r = found (entry_at s.store k.0) k.2 in inl (r.0, (k.0, r.1, r.2)))
     (least_of (λ k. offer (entry_at s.store k)) (λ k. k) 256)
   where
@@ -114,7 +114,7 @@ write_some print s n x h =
     (λ inside. ⊎_elim
     (λ whole. ⊎_elim
     (λ same. (Ok (record { kind = Unchanged; moved = 0 }), s, (inside, whole, (content_same (held s n) (Some x) same, refl, refl))))
-    (λ differs. let other : Holds s n x → ⊥ = λ e. both_ways _ differs (same_content (held s n) (Some x) e) in
+    (λ differs. let other : Holds s n x → ⊥ = λ e. both_ways _ differs (same_content_if_equal (held s n) (Some x) e) in
     ⊎_elim
     (λ o. let st = h.stores.each o.1.0 _ o.1.1 in
     let e = free_entry print s o.0 (mid print s h) st.inside st.live in
@@ -184,7 +184,7 @@ copies_or s =
         lt-ltb 0 _ (tally_pos (copy i) (flash_pages s) j c.1
         (and_from (ltb i j) _ (lt-ltb i j l)
         (and_from (in_use s i && in_use s j) _ (and_from (in_use s i) (in_use s j) c.2 c.3)
-        (same_content (content s.part i) (content s.part j) c.4))))
+        (same_content_if_equal (content s.part i) (content s.part j) c.4))))
 
 -- Merging ends, since every merge leaves one page less in use.
 merges_some : (print : Bytes → ℕ) (fuel : ℕ) (s : State) → Mid print s → live_pages s ≤ fuel → (died : ℕ) × (t : State) × Merges died s t

@@ -197,9 +197,9 @@ merge_agrees f is_written host j e few a big taken apart = record {
       let d = leads_cases f (f n) in
       let at_e : merged_names f j e e < no_page = let c' = merged_cases f j e e in let q = merged_entry_cases j (f e) in grind (arith, c', q) in
       ⊎_elim
-      (λ h. subst (λ v. merged_names f j e v < no_page) (sym (merged_word f j e n l ∙ h.1)) at_e)
-      (λ h. subst (λ v. merged_names f j e v < no_page) (sym (merged_word f j e n l ∙ h.1))
-      (let is : merged_names f j e n ≡ f n = merged_word f j e n l ∙ h.1 in
+      (λ h. subst (λ v. merged_names f j e v < no_page) (sym (merged_names_word f j e n l ∙ h.1)) at_e)
+      (λ h. subst (λ v. merged_names f j e v < no_page) (sym (merged_names_word f j e n l ∙ h.1))
+      (let is : merged_names f j e n ≡ f n = merged_names_word f j e n l ∙ h.1 in
       let c'' = merged_cases f j e (f n) in
       let q = merged_entry_cases j (f (f n)) in
       grind (arith, c'', q, d, h.0, a.used n l, is)))
@@ -218,14 +218,14 @@ merge_agrees f is_written host j e few a big taken apart = record {
       let w = merged_word_cases f j e (f m.0) in (
         m.0,
         m.1,
-        merged_word f j e m.0 (omega (arith, m.1)) ∙ ⊎_elim
+        merged_names_word f j e m.0 (omega (arith, m.1)) ∙ ⊎_elim
             (λ h. absurd (x.1 (ap f (sym m.2) ∙ sym (⊎_elim (λ low. absurd (omega (arith, low.0, m.2))) (λ high. high.1) d) ∙ h.0)))
             (λ h. h.1 ∙ m.2) w,
       );
 }
   where
-    merged_word : (f : ℕ → ℕ) (j e n : ℕ) → n < 4096 → merged_names f j e n ≡ merged_word f j e (f n)
-    merged_word f j e n l = ap (λ t. cond t (merged_word f j e (f n)) (merged_entry j (f n))) (lt-ltb n 4096 l)
+    merged_names_word : (f : ℕ → ℕ) (j e n : ℕ) → n < 4096 → merged_names f j e n ≡ merged_word f j e (f n)
+    merged_names_word f j e n l = ap (λ t. cond t (merged_word f j e (f n)) (merged_entry j (f n))) (lt-ltb n 4096 l)
 
 -- Agreement asks of the part only that the named pages are written.
 pub written_agrees : (f : ℕ → ℕ) (is_written is_written' : ℕ → Bool) (host : ℕ) → Agree f is_written host

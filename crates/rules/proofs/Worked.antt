@@ -75,8 +75,8 @@ flash_of first second erases =
     }
 
 -- .. then what the places of the store hold ..
-abbrev empty_store : List (Option Entry)
-empty_store = replicate 256 None
+abbrev no_entries : List (Option Entry)
+no_entries = replicate 256 None
 
 abbrev entry_of : (Bytes → ℕ) → Bytes → ℕ → Option Entry
 entry_of print x q = Some (record { print = print x; page = q })
@@ -87,11 +87,11 @@ after_z print Z = record {
   part = flash_of (Z ∷ []) [] 0;
   words = 0 ∷ 4095 ∷ 4095 ∷ [];
   shared = replicate 6 4095;
-  store = set empty_store 0 (entry_of print Z 0);
+  store = set no_entries 0 (entry_of print Z 0);
 }
 
 abbrev store_zh : (Bytes → ℕ) → Bytes → Bytes → List (Option Entry)
-store_zh print Z H = set (set empty_store 0 (entry_of print Z 0)) 1 (entry_of print H 1)
+store_zh print Z H = set (set no_entries 0 (entry_of print Z 0)) 1 (entry_of print H 1)
 
 abbrev after_h : (Bytes → ℕ) → Bytes → Bytes → State
 after_h print Z H = record {
@@ -115,7 +115,7 @@ after_o print Z H O = record {
   part = flash_of (Z ∷ H ∷ []) (O ∷ []) 0;
   words = 4096 ∷ 2 ∷ 4096 ∷ [];
   shared = 0 ∷ replicate 5 4095;
-  store = set (set empty_store 0 (entry_of print Z 0)) 16 (entry_of print O 2);
+  store = set (set no_entries 0 (entry_of print Z 0)) 16 (entry_of print O 2);
 }
 
 abbrev after_collect : (Bytes → ℕ) → Bytes → Bytes → State
@@ -123,7 +123,7 @@ after_collect print Z O = record {
   part = flash_of [] (O ∷ Z ∷ []) 1;
   words = 4096 ∷ 2 ∷ 4096 ∷ [];
   shared = 3 ∷ replicate 5 4095;
-  store = set (set empty_store 0 (entry_of print Z 3)) 16 (entry_of print O 2);
+  store = set (set no_entries 0 (entry_of print Z 3)) 16 (entry_of print O 2);
 }
 
 -- An entry of a store with one more: the new one, or one that was there.
@@ -133,9 +133,9 @@ entry_among store p new inside k e is =
     ⊎_elim (λ r. inl r.1) (λ r. inr r.1) (entered_entry store (set store p (Some new)) new p inside refl k e is)
 
 -- The one entry of a store that was empty.
-entry_alone : (p : ℕ) (new : Entry) → p < 256 → (k : ℕ) (e : Entry) → entry_at (set empty_store p (Some new)) k ≡ Some e → e ≡ new
+entry_alone : (p : ℕ) (new : Entry) → p < 256 → (k : ℕ) (e : Entry) → entry_at (set no_entries p (Some new)) k ≡ Some e → e ≡ new
 entry_alone p new inside k e is =
-    ⊎_elim (λ same. same) (λ was. absurd (empty_store 256 k e was)) (entry_among empty_store p new inside k e is)
+    ⊎_elim (λ same. same) (λ was. absurd (empty_store 256 k e was)) (entry_among no_entries p new inside k e is)
 
 -- A page y is not offered where every entry is that of one flash page, which has other bytes x ..
 others_content : (print : Bytes → ℕ) (s : State) (x y : Bytes) (q : ℕ)
@@ -196,7 +196,7 @@ module _ (print : Bytes → ℕ) (Z H O : Bytes) (z_long : length Z ≡ 256) (h_
   z_stored =
       stored print example_start 0 Z (after_z print Z) (lit< tt) z_long start_ready (none_there Z) (start_none_offered print Z) (
         0,
-        set empty_store 0 (entry_of print Z 0),
+        set no_entries 0 (entry_of print Z 0),
         takes_fresh example_start 0 refl refl refl refl (lit< tt) refl refl,
         takes 0 (lit< tt, ap (λ i. i % 16) (sym z_print)) refl refl,
         refl,
@@ -235,7 +235,7 @@ module _ (print : Bytes → ℕ) (Z H O : Bytes) (z_long : length Z ≡ 256) (h_
   prints_zero k e is =
       ⊎_elim (λ new. ap (λ (d : Entry). d.print) new ∙ h_print)
       (λ was. ap (λ (d : Entry). d.print) (entry_alone 0 _ (lit< tt) k e was) ∙ z_print)
-      (entry_among (set empty_store 0 (entry_of print Z 0)) 1 _ (lit< tt) k e is)
+      (entry_among (set no_entries 0 (entry_of print Z 0)) 1 _ (lit< tt) k e is)
 
   o_stored : Step print (after_sharing print Z H) (write 1 O) (wrote_as Stored) (after_o print Z H O)
   o_stored =
@@ -349,7 +349,7 @@ module _ (print : Bytes → ℕ) (Z H : Bytes) (z_long : length Z ≡ 256) (h_lo
       (λ store. h_decided (z_in Z 2 store) 4 (lit< tt) (2, lit< tt, refl) refl refl)
 
   -- The store after the first write has at most an entry of Z's page.
-  one_page : (q : ℕ) (store : List (Option Entry)) → Entered (hotness example_start) empty_store (record { print = print Z; page = q }) 1 store
+  one_page : (q : ℕ) (store : List (Option Entry)) → Entered (hotness example_start) no_entries (record { print = print Z; page = q }) 1 store
       → (k : ℕ) (e : Entry) → entry_at store k ≡ Some e → e.page ≡ q
   one_page q store entered k e has =
       ⊎_elim
@@ -357,7 +357,7 @@ module _ (print : Bytes → ℕ) (Z H : Bytes) (z_long : length Z ≡ 256) (h_lo
       (λ p. ap (λ (d : Entry). d.page)
       (entry_alone p.0 (record { print = print Z; page = q }) p.1.0 k e
       (ap (λ (y : List (Option Entry)). entry_at y k) (sym p.2) ∙ has)))
-      (entered_cases (hotness example_start) empty_store (record { print = print Z; page = q }) 1 store entered)
+      (entered_cases (hotness example_start) no_entries (record { print = print Z; page = q }) 1 store entered)
 
   second_write : (a b : Answer) (m t : State) → Step print example_start (write 0 Z) a m → Step print m (write 1 H) b t
       → b ≡ wrote_as Stored

@@ -1,4 +1,6 @@
 // The rules of the layer, stated over what a part shows and what the tables hold, and the promise over whole runs.
+#![tactic(auto)]
+
 mod answer;
 mod call;
 mod examples;

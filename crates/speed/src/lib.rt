@@ -1,4 +1,6 @@
 // What the benchmark calls, under names that a linker sees.
+#![tactic(auto)]
+
 ghost use Rattle.std.specs.Prelude.{◌≡◌};
 ghost use Rattle.fingerprint.specs.Fletcher.{fletcher_of};
 ghost use Rattle.page.specs.Same.{same_bytes};

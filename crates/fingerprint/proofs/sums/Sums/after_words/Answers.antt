@@ -12,5 +12,5 @@ loop-i-preserved c =
     let inside : i + 1 < length bytes = omega arith in
     let rest = words_of (drop (i + 2) bytes) in
     let more = words_more bytes i (i + 2) refl inside in
-    let step : fletcher_from c.after-word-sums.result.a c.after-word-sums.result.b rest ≡ fletcher_from a b (word_at bytes i ∷ rest) = cc in
-    (c.after-word-sums.ensures.reduced, omega arith, omega arith, omega arith, step ∙ ap (fletcher_from a b) (sym more) ∙ c.loop-i.invariant.4)
+    let step : fletcher_from c.after_word-sums.result.a c.after_word-sums.result.b rest ≡ fletcher_from a b (word_at bytes i ∷ rest) = cc in
+    (c.after_word-sums.ensures.reduced, omega arith, omega arith, omega arith, step ∙ ap (fletcher_from a b) (sym more) ∙ c.loop-i.invariant.4)

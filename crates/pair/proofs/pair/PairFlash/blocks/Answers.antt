@@ -8,4 +8,4 @@ returns g c =
     let p = g.F.Flash.shows w.first in
     let q = g.G.Flash.shows w.second in
     let n = pair_count p q in
-    record { value = omega arith; sound = pair_sound p q c.shown-blocks.ensures.first c.shown-blocks.ensures.second }
+    record { value = omega arith; sound = pair_sound p q c.shown_blocks.ensures.first c.shown_blocks.ensures.second }

@@ -15,10 +15,10 @@ returns-in-First g c =
     let st = c.in-First.ensures.found in
     let v = seen_first p q _ _ st in
     record {
-      answer = seen_erase (λ y. pair_of y q) p _ _ v _ _ c.endurance-endurance.ensures.value c.erase-within.ensures.answer;
-      after = seen_erased (λ y. pair_of y q) p _ _ v _ _ _ c.endurance-endurance.ensures.value c.erase-within.ensures.answer c.erase-within.ensures.after;
-      first = first_own p q _ _ st _ _ (erased p) c.erase-within.ensures.after;
-      second = second_other p q _ _ st c.erase-within.result (erased q (c.args.block - length p.blocks));
+      answer = seen_erase (λ y. pair_of y q) p _ _ v _ _ c.endurance-endurance.ensures.value c.erase_within.ensures.answer;
+      after = seen_erased (λ y. pair_of y q) p _ _ v _ _ _ c.endurance-endurance.ensures.value c.erase_within.ensures.answer c.erase_within.ensures.after;
+      first = first_own p q _ _ st _ _ (erased p) c.erase_within.ensures.after;
+      second = second_other p q _ _ st c.erase_within.result (erased q (c.args.block - length p.blocks));
     }
 
 pub returns-in-Second : goal.returns-in-Second
@@ -29,10 +29,10 @@ returns-in-Second g c =
     let st = c.in-Second.ensures.found in
     let v = seen_second p q _ _ st in
     record {
-      answer = seen_erase (pair_of p) q _ _ v _ _ c.endurance-endurance.ensures.value c.erase-within-in-Second.ensures.answer;
-      after = seen_erased (pair_of p) q _ _ v _ _ _ c.endurance-endurance.ensures.value c.erase-within-in-Second.ensures.answer c.erase-within-in-Second.ensures.after;
-      first = first_other p q _ _ st c.erase-within-in-Second.result (erased p c.args.block);
-      second = second_own p q _ _ st _ _ (erased q) c.erase-within-in-Second.ensures.after;
+      answer = seen_erase (pair_of p) q _ _ v _ _ c.endurance-endurance.ensures.value c.erase_within-in-Second.ensures.answer;
+      after = seen_erased (pair_of p) q _ _ v _ _ _ c.endurance-endurance.ensures.value c.erase_within-in-Second.ensures.answer c.erase_within-in-Second.ensures.after;
+      first = first_other p q _ _ st c.erase_within-in-Second.result (erased p c.args.block);
+      second = second_own p q _ _ st _ _ (erased q) c.erase_within-in-Second.ensures.after;
     }
 
 pub returns-in-Nowhere : goal.returns-in-Nowhere
