@@ -8,7 +8,7 @@ pub returns : goal.returns
 returns c =
     let m = c.args.bytes.now in let r = c.attach.result in
     let is : r.bytes.now ≡ formatted m (pages_of c.args.pages) =
-    c.attach.ensures.bytes ∙ c.format.ensures.bytes ∙ ap (formatted m) c.pages-of.ensures.value in
+    c.attach.ensures.bytes ∙ c.format.ensures.bytes ∙ ap (formatted m) c.pages_of.ensures.value in
     record {
       bytes = is;
       pages = c.attach.ensures.pages;

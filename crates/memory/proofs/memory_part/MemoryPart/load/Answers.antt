@@ -5,13 +5,13 @@ use Rattle.memory.proofs.Accepted.{read_accepted}
 use Rattle.memory.proofs.Shown.{shown_inside, shown_content}
 use Rattle.memory.proofs.memory_part.MemoryPart.load.Goals as goal
 
-pub read-page-requires : goal.read-page-requires
-read-page-requires c =
+pub read_page-requires : goal.read_page-requires
+read_page-requires c =
     let p = c.args.self.now in
     record {
       pages = omega arith;
-      block = shown_inside p.bytes.now p.pages p.endurance c.args.block c.blocks-2.result c.pages-per-block-pages.result
-          c.blocks-2.ensures.value c.pages-per-block-pages.ensures.value (omega arith);
+      block = shown_inside p.bytes.now p.pages p.endurance c.args.block c.blocks-2.result c.pages_per_block-pages.result
+          c.blocks-2.ensures.value c.pages_per_block-pages.ensures.value (omega arith);
       page = omega arith;
     }
 
@@ -23,7 +23,7 @@ returns c =
     c.blocks-2.ensures.value refl (omega arith) in
     record {
       answer = read_accepted (memory_of p.bytes.now p.pages p.endurance) c.args.block (omega arith) c.args.page (omega arith) (omega arith);
-      buffer = c.read-page.ensures.buffer
-          ∙ ap (λ P. page_in p.bytes.now P c.args.block c.args.page) c.pages-per-block-pages.ensures.value
+      buffer = c.read_page.ensures.buffer
+          ∙ ap (λ P. page_in p.bytes.now P c.args.block c.args.page) c.pages_per_block-pages.ensures.value
           ∙ sym (shown_content p.bytes.now p.pages p.endurance c.args.block h c.args.page (omega arith));
     }

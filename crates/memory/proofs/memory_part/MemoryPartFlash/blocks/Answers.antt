@@ -7,7 +7,7 @@ pub returns : goal.returns
 returns c =
     let p = c.args.self.now in
     record {
-      value = c.record-count.ensures.value ∙ ap (record_count p.bytes.now) c.pages-of.ensures.value
+      value = c.record_count.ensures.value ∙ ap (record_count p.bytes.now) c.pages_of.ensures.value
           ∙ sym (shown_count p.bytes.now p.pages p.endurance);
       sound = shown_sound p.bytes.now p.pages p.endurance;
     }

@@ -13,9 +13,9 @@ wipe-requires c =
     c.blocks-2.ensures.value refl (omega arith) in
     record {
       pages = omega arith;
-      block = shown_inside p.bytes.now p.pages p.endurance c.args.block c.blocks-2.result c.pages-per-block-pages.result
-          c.blocks-2.ensures.value c.pages-per-block-pages.ensures.value (omega arith);
-      left = subst (λ P. stored_erases p.bytes.now P b < 1000000) (sym c.pages-per-block-pages.ensures.value)
+      block = shown_inside p.bytes.now p.pages p.endurance c.args.block c.blocks-2.result c.pages_per_block-pages.result
+          c.blocks-2.ensures.value c.pages_per_block-pages.ensures.value (omega arith);
+      left = subst (λ P. stored_erases p.bytes.now P b < 1000000) (sym c.pages_per_block-pages.ensures.value)
           (omega (arith, shown_erases p.bytes.now p.pages p.endurance b h));
     }
 
@@ -26,7 +26,7 @@ returns c =
     shown_inside p.bytes.now p.pages p.endurance c.args.block c.blocks-2.result (pages_of p.pages)
     c.blocks-2.ensures.value refl (omega arith) in
     let is : c.wipe.new.bytes ≡ wiped p.bytes.now (pages_of p.pages) b =
-    c.wipe.ensures.bytes ∙ ap (λ P. wiped p.bytes.now P b) c.pages-per-block-pages.ensures.value in
+    c.wipe.ensures.bytes ∙ ap (λ P. wiped p.bytes.now P b) c.pages_per_block-pages.ensures.value in
     record {
       answer = erase_accepted (memory_of p.bytes.now p.pages p.endurance) b (omega arith) (omega arith);
       after = ap (λ m. memory_of m p.pages p.endurance) is

@@ -10,7 +10,7 @@ erases-requires c =
     record {
       pages = omega arith;
       block = shown_inside p.bytes.now p.pages p.endurance _ _ _
-          c.blocks-2.ensures.value c.pages-per-block.ensures.value c.if-block-blocks.true;
+          c.blocks-2.ensures.value c.pages_per_block.ensures.value c.if-block-blocks.true;
     }
 
 pub returns-then-block-blocks : goal.returns-then-block-blocks
@@ -19,7 +19,7 @@ returns-then-block-blocks c =
     let h = shown_inside p.bytes.now p.pages p.endurance _ _ _ c.blocks-2.ensures.value refl c.if-block-blocks.true in
     record {
       value = c.erases.ensures.value
-          ∙ ap (λ P. min (stored_erases p.bytes.now P c.args.block) c.endurance.result) c.pages-per-block.ensures.value
+          ∙ ap (λ P. min (stored_erases p.bytes.now P c.args.block) c.endurance.result) c.pages_per_block.ensures.value
           ∙ ap (min (stored_erases p.bytes.now (pages_of p.pages) c.args.block)) c.endurance.ensures.value
           ∙ sym (shown_erases p.bytes.now p.pages p.endurance c.args.block h);
     }

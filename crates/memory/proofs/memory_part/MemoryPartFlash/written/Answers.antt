@@ -10,7 +10,7 @@ written-requires c =
     record {
       pages = omega arith;
       block = shown_inside p.bytes.now p.pages p.endurance _ _ _
-          c.blocks-2.ensures.value c.pages-per-block.ensures.value c.if-block-blocks.true;
+          c.blocks-2.ensures.value c.pages_per_block.ensures.value c.if-block-blocks.true;
     }
 
 pub returns-then-block-blocks : goal.returns-then-block-blocks
@@ -18,7 +18,7 @@ returns-then-block-blocks c =
     let p = c.args.self.now in
     record {
       value = c.written.ensures.value
-          ∙ ap (λ P. written_in p.bytes.now P c.args.block) c.pages-per-block.ensures.value
+          ∙ ap (λ P. written_in p.bytes.now P c.args.block) c.pages_per_block.ensures.value
           ∙ sym (shown_written p.bytes.now p.pages p.endurance c.args.block
           (shown_inside p.bytes.now p.pages p.endurance _ _ _ c.blocks-2.ensures.value refl c.if-block-blocks.true));
     }
