@@ -3,7 +3,7 @@ use Rattle.std.proofs.Common.{◌≡◌, ℕ, ◌+◌, ◌-◌, ◌*◌, ◌<◌
 use mathlib.Core.Path.{fun_ext}
 use Rattle.std.proofs.lemmas.List.{length-set, length-map}
 use Rattle.flash.specs.Part.{Part, Sound}
-use Rattle.rules.specs.State.{Bytes, State, no_page, per_block, host_pages, name, names, leads, reach, content, in_use, is_written, held}
+use Rattle.rules.specs.State.{Bytes, State, no_page, host_pages, name, names, leads, reach, content, in_use, is_written, held}
 use Rattle.rules.specs.Tables.{EntryFor, lifted, repoint}
 use Rattle.rules.specs.Making.{Agree, Agrees}
 use Rattle.rules.proofs.Cases.{by_eq, by_lt}

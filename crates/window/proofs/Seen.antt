@@ -2,7 +2,7 @@
 use Rattle.std.proofs.Common.{◌≡◌, ℕ, ◌+◌, ◌-◌, ◌<◌, ◌≤◌, min, ltb, List, [], ◌∷◌, ◌++◌, length, get_or, take, drop, set, sym, refl, ap, ◌∙◌, subst, arith}
 use lib.Seq.{take-set-lt}
 use Rattle.std.proofs.lemmas.List.{length-take, length-drop, get_or-take, get_or-drop, drop-set-add, get_or_past}
-use Rattle.flash.specs.Part.{Block, Part, SoundBlock, Sound, no_block, block, erases, content, with_block, appended, erased}
+use Rattle.flash.specs.Part.{Block, Part, SoundBlock, Sound, no_block, block, content, with_block, appended, erased}
 use Rattle.flash.specs.Answers.{Answer, program_answer, read_answer, erase_answer, either}
 use Rattle.flash.proofs.Alike.{program_alike, read_alike, erase_alike, either_by}
 use Rattle.window.specs.Shown.{window_of}
