@@ -1,6 +1,6 @@
 -- The numbers of both kinds fit 32 bits.
 use Rattle.std.proofs.Common.{ℕ, zero, suc, ◌+◌, ◌%◌, ◌^◌, ◌<◌, List, [], ◌∷◌, get_or, mod-lt, arith, lit<}
-use Rattle.std.specs.List.{AllByRecursion as All}
+use Rattle.std.specs.List.{AllByRecursion}
 use Rattle.fingerprint.specs.Sample.{sample_of}
 use Rattle.fingerprint.specs.Fletcher.{fletcher_from, fletcher_of, words_of}
 
@@ -15,10 +15,10 @@ pub fletcher_fits : (bytes : List ℕ) → fletcher_of bytes < 2 ^ 32
 fletcher_fits bytes = fletcher_from_fits 0 0 (words_of bytes) (lit< tt) (lit< tt)
 
 -- a byte that is read is below 256, and so is the zero that is read past the end
-byte : (bytes : List ℕ) (i : ℕ) → All (λ b. b < 256) bytes → get_or bytes i 0 < 256
+byte : (bytes : List ℕ) (i : ℕ) → AllByRecursion (λ b. b < 256) bytes → get_or bytes i 0 < 256
 byte [] i all = lit< tt
 byte (b ∷ bytes) zero all = all.0
 byte (b ∷ bytes) (suc i) all = byte bytes i all.1
 
-pub sample_fits : (bytes : List ℕ) → All (λ b. b < 256) bytes → sample_of bytes < 2 ^ 32
+pub sample_fits : (bytes : List ℕ) → AllByRecursion (λ b. b < 256) bytes → sample_of bytes < 2 ^ 32
 sample_fits bytes all = omega (arith, byte bytes 0 all, byte bytes 1 all, byte bytes 2 all, byte bytes 3 all)

@@ -1,6 +1,6 @@
 -- Worked examples of both kinds, and the bound of their numbers.
 use Rattle.std.specs.Prelude.{◌≡◌, ℕ, ◌^◌, ◌<◌, List, replicate, slice_set}
-use Rattle.std.specs.List.{AllByRecursion as All}
+use Rattle.std.specs.List.{AllByRecursion}
 use Rattle.fingerprint.specs.Sample.{sample_of}
 use Rattle.fingerprint.specs.Fletcher.{fletcher_of}
 
@@ -32,4 +32,4 @@ pub record Worked : Type 0 where
 -- both numbers fit 32 bits: Fletcher's for every list of numbers, and Sample's for every list of bytes
 pub record Fit : Type 0 where
   pub fletcher : (bytes : List ℕ) → fletcher_of bytes < 2 ^ 32
-  pub sample : (bytes : List ℕ) → All (λ byte. byte < 256) bytes → sample_of bytes < 2 ^ 32
+  pub sample : (bytes : List ℕ) → AllByRecursion (λ byte. byte < 256) bytes → sample_of bytes < 2 ^ 32
