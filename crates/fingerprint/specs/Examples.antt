@@ -4,23 +4,23 @@ use Rattle.std.specs.List.{AllByRecursion}
 use Rattle.fingerprint.specs.Sample.{sample_of}
 use Rattle.fingerprint.specs.Fletcher.{fletcher_of}
 
--- the page of 256 zeros
+-- The page of zeros.
 abbrev pub zeros : List ℕ
 zeros = replicate 256 0
 
--- the page that begins with 1 and is zeros after
+-- The page that begins with 1 and is zeros after it.
 abbrev pub starts_with_one : List ℕ
 starts_with_one = slice_set zeros 0 1
 
--- the page that begins 255, 255 and is zeros after
+-- The page that begins 255, 255 and is zeros after them.
 abbrev pub starts_with_two_full : List ℕ
 starts_with_two_full = slice_set (slice_set zeros 0 255) 1 255
 
--- the page whose byte 254 alone is 1: the low byte of the last word
+-- The page whose byte 254 alone is 1: the low byte of the last word.
 abbrev pub one_in_last_word : List ℕ
 one_in_last_word = slice_set zeros 254 1
 
--- the numbers of these pages; the first two are two different pages with one number
+-- The numbers of these pages; the first two are different pages with one number.
 pub record Worked : Type 0 where
   pub fletcher_of_zeros : fletcher_of zeros ≡ 0
   pub fletcher_of_two_full : fletcher_of starts_with_two_full ≡ 0
@@ -29,7 +29,7 @@ pub record Worked : Type 0 where
   pub sample_of_one : sample_of starts_with_one ≡ 16777216
   pub different_pages : zeros ≡ starts_with_two_full → ⊥
 
--- both numbers fit 32 bits: Fletcher's for every list of numbers, and Sample's for every list of bytes
+-- Both numbers fit 32 bits: Fletcher's for every list of numbers, and Sample's for every list of bytes.
 pub record Fit : Type 0 where
   pub fletcher : (bytes : List ℕ) → fletcher_of bytes < 2 ^ 32
   pub sample : (bytes : List ℕ) → AllByRecursion (λ byte. byte < 256) bytes → sample_of bytes < 2 ^ 32

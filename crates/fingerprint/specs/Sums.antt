@@ -2,6 +2,6 @@
 use Rattle.std.specs.Prelude.{◌<◌}
 use Rattle.fingerprint.specs.declared.sums.Sums.{Sums}
 
--- both sums are below the modulus
+-- Both sums are below the modulus.
 abbrev pub Reduced : Sums → Type 0
 Reduced sums = (sums.a < 65535) × (sums.b < 65535)

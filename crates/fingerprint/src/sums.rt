@@ -2,6 +2,7 @@ ghost use Rattle.std.specs.Prelude.{◌≡◌, ◌+◌, ◌-◌, ◌*◌, ◌%�
 ghost use Rattle.fingerprint.specs.Sums.{Reduced};
 ghost use Rattle.fingerprint.specs.Fletcher.{words_of, fletcher_from};
 
+// What the sums are reduced by.
 const MODULUS: u64 = 65_535;
 
 // A turn of the fast loop takes four words.

@@ -24,7 +24,7 @@ sound_put p b new h s w = record {
   limit = w.limit;
 }
 
--- A page of 256 bytes more in a block that has room.
+-- A page more in a block that has room keeps a part well-formed.
 pub sound_appended : (p : Part) (b : ℕ) (x : List ℕ)
     → b < length p.blocks → written p b < p.per_block → length x ≡ 256 → Sound p → Sound (appended p b x)
 sound_appended p b x h room full w =
@@ -41,7 +41,7 @@ sound_appended p b x h room full w =
     })
     w
 
--- An erase of a block that is not worn out.
+-- An erase of a block below its endurance keeps a part well-formed.
 pub sound_erased : (p : Part) (b : ℕ)
     → b < length p.blocks → (block p b).erases < p.endurance → Sound p → Sound (erased p b)
 sound_erased p b h left w =

@@ -1,5 +1,5 @@
 -- What a part answers, and what it shows after a call.
-use Rattle.std.specs.Prelude.{ℕ, cond, length, Ok, Err, Result, ◌==◌, nat_lt}
+use Rattle.std.specs.Prelude.{ℕ, cond, List, ◌++◌, length, Ok, Err, codes, decimal, Result, ◌==◌, nat_lt}
 use Rattle.flash.specs.declared.refusal.Refusal.{Refusal}
 use Rattle.flash.specs.declared.refusal.Refusal.TheVariants.{NoSuchPage, NotNext, Unwritten, WornOut}
 use Rattle.flash.specs.Part.{Part, written, erases}
@@ -10,6 +10,17 @@ number_of NoSuchPage = 16
 number_of NotNext = 17
 number_of Unwritten = 18
 number_of WornOut = 19
+
+-- The words of each refusal, as the bytes of a text.
+abbrev pub refusal_words : Refusal → List ℕ
+refusal_words NoSuchPage = codes "no such page"
+refusal_words NotNext = codes "not the next page"
+refusal_words Unwritten = codes "unwritten"
+refusal_words WornOut = codes "endurance reached"
+
+-- A refusal as text: its number, and its words in brackets.
+abbrev pub refusal_text : Refusal → List ℕ
+refusal_text e = decimal (number_of e) ++ (codes " (" ++ (refusal_words e ++ codes ")"))
 
 -- What a call answers that gives nothing back but may refuse.
 abbrev pub Answer : Type 0

@@ -14,9 +14,11 @@ pub trait Flash {
         ensures value { result ≡ length (shows self.now).blocks }
         ensures sound { Sound (shows self.now) };
 
+    // The number of pages that a block has room for.
     fn pages_per_block(&self) -> usize
         ensures value { result ≡ (shows self.now).per_block };
 
+    // The number of erases that a block endures.
     fn endurance(&self) -> u32
         ensures value { result ≡ (shows self.now).endurance };
 

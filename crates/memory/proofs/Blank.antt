@@ -5,10 +5,12 @@ use Rattle.memory.specs.Layout.{record_size, record_at}
 use Rattle.memory.specs.Memory.{put, blank_record, blank_records}
 use Rattle.memory.proofs.Writes.{put_put}
 
+-- A blank record is as long as any.
 pub length_blank_record : (P : ℕ) → length (blank_record P) ≡ record_size P
 length_blank_record P =
     omega (arith, length-replicate {A = ℕ} (256 * P) 255)
 
+-- The first n records end where the next begins.
 pub length_blank_records : (P n : ℕ) → length (blank_records P n) ≡ record_at P n
 length_blank_records P zero = omega arith
 length_blank_records P (suc n) =
@@ -33,7 +35,7 @@ blank_more m P n within =
     ∙ sym (append_assoc fore (blank_record P) _)
     ∙ ap (λ k. blank_records P k ++ drop (record_at P (n + 1)) m) (sym (add-one n))
 
--- It is made so in two writes.
+-- A record is made blank in two writes.
 pub blank_step : (m : List ℕ) (P n at : ℕ) (old headed new : List ℕ)
     → record_at P n + record_size P ≤ length m → at ≡ record_at P n
     → old ≡ blank_records P n ++ drop (record_at P n) m

@@ -29,9 +29,11 @@ blank_count P (suc n) b j h l =
     (cases_eq b n)
 
 module _ (m : List ℕ) (P : ℕ) where
+  -- The records of the memory.
   abbrev count : ℕ
   count = record_count m P
 
+  -- They lie in the memory.
   records_inside : record_at P count ≤ length m
   records_inside =
       let n = record_size P in

@@ -32,7 +32,7 @@ pub unshown_block : (m : List ℕ) (pages endurance b : ℕ) → length (memory_
 unshown_block m pages endurance b out = get_or_past _ b no_block out
 
 module _ (m : List ℕ) (pages endurance b : ℕ) (h : b < record_count m (pages_of pages)) where
-  -- Its written pages, as many as the count in its record ..
+  -- It has as many written pages as the count in its record says.
   pub shown_written : written (memory_of m pages endurance) b ≡ written_in m (pages_of pages) b
   shown_written =
       ap (λ (x : Block). length x.pages) (shown_block m pages endurance b h)
@@ -45,6 +45,7 @@ module _ (m : List ℕ) (pages endurance b : ℕ) (h : b < record_count m (pages
       ap (λ (x : Block). get_or x.pages k []) (shown_block m pages endurance b h)
       ∙ get_or-map-range_with_len _ 0 (written_in m (pages_of pages) b) k k [] (omega (arith, shown_written)) (omega arith)
 
+  -- Its erase count is the one in its record, as far as it endures.
   pub shown_erases : erases (memory_of m pages endurance) b ≡ min (stored_erases m (pages_of pages) b) (endurance_of endurance)
   shown_erases = ap (λ (x : Block). x.erases) (shown_block m pages endurance b h)
 
@@ -66,9 +67,11 @@ module _ (m : List ℕ) (P b k : ℕ) (x : List ℕ) (h : b < record_count m P) 
   abbrev paged : List ℕ
   paged = put m (page_at P b k) x
 
+  -- The page lies in the memory.
   page_within : page_at P b k + length x ≤ length m
   page_within = omega (arith, record_inside m P b h)
 
+  -- The count lies in the memory.
   count_within : record_at P b + 2 ≤ length paged
   count_within = omega (arith, record_inside m P b h, length_put m (page_at P b k) x page_within)
 
@@ -115,30 +118,38 @@ module _ (m : List ℕ) (P b k : ℕ) (x : List ℕ) (h : b < record_count m P) 
 
 -- Block b is erased: the pages, the written count and the erase count are written.
 module _ (m : List ℕ) (P b : ℕ) (h : b < record_count m P) where
+  -- The memory with the pages erased.
   abbrev blanked : List ℕ
   blanked = put m (page_at P b 0) (replicate (256 * P) 255)
 
+  -- The memory with the written count at 0 too.
   abbrev unwritten : List ℕ
   unwritten = put blanked (record_at P b) (bytes16 0)
 
   pages_within : page_at P b 0 + length (replicate {A = ℕ} (256 * P) 255) ≤ length m
   pages_within = omega (arith, record_inside m P b h, length-replicate {A = ℕ} (256 * P) 255)
 
+  -- It is as long with the pages erased.
   blanked_length : length blanked ≡ length m
   blanked_length = length_put m (page_at P b 0) (replicate (256 * P) 255) pages_within
 
+  -- The written count lies in it.
   written_within : record_at P b + 2 ≤ length blanked
   written_within = omega (arith, record_inside m P b h, blanked_length)
 
+  -- It is as long with the written count at 0.
   unwritten_length : length unwritten ≡ length m
   unwritten_length = length_put blanked (record_at P b) (bytes16 0) written_within ∙ blanked_length
 
+  -- The erase count lies in it.
   erases_within : record_at P b + 4 + 4 ≤ length unwritten
   erases_within = omega (arith, record_inside m P b h, unwritten_length)
 
+  -- The memory stays as long.
   pub wiped_length : length (wiped m P b) ≡ length m
   wiped_length = length_put unwritten (record_at P b + 4) (bytes32 (stored_erases m P b + 1)) erases_within ∙ unwritten_length
 
+  -- Every other record stays.
   pub wiped_elsewhere : (c : ℕ) → (c ≡ b → ⊥) → SameRecord (wiped m P b) m P c
   wiped_elsewhere c ne =
       same_trans (wiped m P b) unwritten m _ _
@@ -172,7 +183,7 @@ module _ (m : List ℕ) (pages endurance b : ℕ) (h : b < record_count m (pages
       ∙ ap (λ (y : Block). record { pages = y.pages ++ x ∷ []; erases = y.erases }) (sym (shown_block m pages endurance b h)))
       (programmed_elsewhere m P b k x h next full)
 
-  -- An erase of a block that is not worn out empties it, and counts.
+  -- An erase of a block below its endurance empties it, and counts.
   pub shown_erased : min (stored_erases m (pages_of pages) b) (endurance_of endurance) < endurance_of endurance
       → memory_of (wiped m (pages_of pages) b) pages endurance ≡ erased (memory_of m pages endurance) b
   shown_erased left =

@@ -11,19 +11,22 @@ abbrev pub Same : List ℕ → List ℕ → ℕ → ℕ → Type 0
 Same m m' from to = (j : ℕ) → from ≤ j → j < to → get_or m j 0 ≡ get_or m' j 0
 
 module _ (m : List ℕ) (i : ℕ) (xs : List ℕ) (within : i + length xs ≤ length m) where
+  -- The memory stays as long.
   pub length_put : length (put m i xs) ≡ length m
   length_put = simp (length-append, length-take, length-drop) (omega arith)
 
+  -- The bytes before the write.
   front : length (take i m) ≡ i
   front = length-take-le i m (omega arith)
 
-  -- The bytes written stand there ..
+  -- The bytes written stand there.
   pub get_d_put : (j : ℕ) → j < length xs → get_or (put m i xs) (i + j) 0 ≡ get_or xs j 0
   get_d_put j h =
       get_or-append_right (take i m) _ i (i + j) 0 front (omega arith)
       ∙ ap (λ k. get_or (xs ++ drop (i + length xs) m) k 0) (omega arith)
       ∙ get_or_append_left xs _ 0 j h
 
+  -- They are read back as a whole.
   pub between_put : take (length xs) (drop i (put m i xs)) ≡ xs
   between_put = ap (take (length xs)) (drop_at (take i m) _ i front) ∙ take_at xs _ (length xs) refl
 
@@ -79,7 +82,7 @@ same_number32 a b i same =
     let p = same i (omega arith) (omega arith) in let q = same (i + 1) (omega arith) (omega arith) in
     let r = same (i + 2) (omega arith) (omega arith) in let s = same (i + 3) (omega arith) (omega arith) in cc
 
--- A number that was written is read back.
+-- A number of 16 bits that was written is read back.
 pub number16_put : (m : List ℕ) (i n : ℕ) → i + 2 ≤ length m → n < 65536 → number16 (put m i (bytes16 n)) i ≡ n
 number16_put m i n within small =
     let p : get_or (put m i (bytes16 n)) i 0 ≡ n % 256 =
@@ -91,6 +94,7 @@ sum_digits : (n q1 q2 q3 r0 r1 r2 r3 : ℕ) → q1 * 256 + r0 ≡ n → q2 * 256
     → r0 + r1 * 256 + r2 * 65536 + r3 * 16777216 ≡ n
 sum_digits n q1 q2 q3 r0 r1 r2 r3 a b c d = omega arith
 
+-- So is a number of 32 bits of its bytes.
 sum_bytes32 : (n : ℕ) → n < 4294967296
     → n % 256 + n / 256 % 256 * 256 + n / 65536 % 256 * 65536 + n / 16777216 % 256 * 16777216 ≡ n
 sum_bytes32 n small =
@@ -101,6 +105,7 @@ sum_bytes32 n small =
     (ap (λ q. q * 256 + n / 65536 % 256) (sym (div-div-eq-div-mul n 65536 256)) ∙ div-add-mod' (n / 65536) 256)
     (omega arith)
 
+-- A number of 32 bits that was written is read back.
 pub number32_put : (m : List ℕ) (i n : ℕ) → i + 4 ≤ length m → n < 4294967296 → number32 (put m i (bytes32 n)) i ≡ n
 number32_put m i n within small =
     let p : get_or (put m i (bytes32 n)) i 0 ≡ n % 256 =

@@ -29,7 +29,7 @@ page_at P b k = record_at P b + (8 + 256 * k)
 abbrev pub number16 : List ℕ → ℕ → ℕ
 number16 m i = slice_index m i + slice_index m (i + 1) * 256
 
--- .. and in four bytes.
+-- The number in four bytes from i on, the lowest byte first.
 abbrev pub number32 : List ℕ → ℕ → ℕ
 number32 m i = slice_index m i + slice_index m (i + 1) * 256 + slice_index m (i + 2) * 65536 + slice_index m (i + 3) * 16777216
 
@@ -37,7 +37,7 @@ number32 m i = slice_index m i + slice_index m (i + 1) * 256 + slice_index m (i 
 abbrev pub bytes16 : ℕ → List ℕ
 bytes16 n = (n % 256) ∷ (n / 256 % 256) ∷ []
 
--- .. and as four bytes.
+-- A number as four bytes, the lowest first.
 abbrev pub bytes32 : ℕ → List ℕ
 bytes32 n = (n % 256) ∷ (n / 256 % 256) ∷ (n / 65536 % 256) ∷ (n / 16777216 % 256) ∷ []
 

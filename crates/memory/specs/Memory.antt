@@ -29,7 +29,7 @@ put m i xs = take i m ++ (xs ++ drop (i + length xs) m)
 abbrev pub programmed : List ℕ → ℕ → ℕ → ℕ → List ℕ → List ℕ
 programmed m P b k x = put (put m (page_at P b k) x) (record_at P b) (bytes16 (k + 1))
 
--- After block b was erased: 255 in every byte of its pages, 0 as the written count, and an erase count that is one higher.
+-- The memory after block b was erased: 255 in every byte of its pages, 0 as the written count, and an erase count that is one higher.
 abbrev pub wiped : List ℕ → ℕ → ℕ → List ℕ
 wiped m P b =
     put (put (put m (page_at P b 0) (replicate (256 * P) 255)) (record_at P b) (bytes16 0))
@@ -39,7 +39,7 @@ wiped m P b =
 abbrev pub blank_record : ℕ → List ℕ
 blank_record P = replicate 8 0 ++ replicate (256 * P) 255
 
--- n of them.
+-- The bytes of n such records, one after another.
 abbrev pub blank_records : ℕ → ℕ → List ℕ
 blank_records P zero = []
 blank_records P (suc n) = blank_records P n ++ blank_record P
@@ -48,6 +48,6 @@ blank_records P (suc n) = blank_records P n ++ blank_record P
 abbrev pub formatted : List ℕ → ℕ → List ℕ
 formatted m P = blank_records P (record_count m P) ++ drop (record_at P (record_count m P)) m
 
--- The part that is made so: no page written, no block erased.
+-- A part of `count` blocks with no page written and no block erased.
 abbrev pub clean_part : ℕ → ℕ → ℕ → Part
 clean_part count P W = record { blocks = replicate count no_block; per_block = P; endurance = W }

@@ -44,6 +44,7 @@ pub(crate) fn record_count(bytes: &[u8], pages: usize) -> usize
     (bytes.len() / (HEADER + PAGE * pages)).min(MOST_BLOCKS)
 }
 
+// Where the record of the block begins.
 fn record_at(pages: usize, block: usize) -> usize
     requires pages { pages ≤ 64 }
     requires block { block < 255 }

@@ -17,9 +17,11 @@ pub record Seen (view : Part → Part) (y : Part) (b c : ℕ) : Type 0 where
   pub put : (new : Block) → view (with_block y c new) ≡ with_block (view y) b (lowered (view y).endurance new)
 
 module _ (view : Part → Part) (y : Part) (b c : ℕ) (s : Seen view y b c) where
+  -- As many of its pages are written.
   pub seen_written : written (view y) b ≡ written y c
   seen_written = ap (λ x. length x.pages) s.same
 
+  -- It was erased as often, as far as the lower endurance.
   pub seen_erases : erases (view y) b ≡ min (erases y c) (view y).endurance
   seen_erases = ap (λ x. x.erases) s.same
 
@@ -45,7 +47,7 @@ module _ (view : Part → Part) (y : Part) (b c : ℕ) (s : Seen view y b c) whe
       ∙ either_by view r (appended y c x) y _ _
       (seen_put _ _ (ap (λ (w : Block). record { pages = w.pages ++ x ∷ []; erases = w.erases }) (sym s.same))) refl
 
-  -- A block below the lower endurance is erased as the part below does it ..
+  -- A block below the lower endurance is erased as the part does it.
   seen_fresh : erases y c < (view y).endurance → erase_answer y c ≡ erase_answer (view y) b
   seen_fresh l =
       sym (erase_alike (view y) y b c s.shown s.inside

@@ -7,6 +7,7 @@ use Rattle.flash.specs.Answers.{Answer, either}
 use Rattle.pair.specs.declared.place.Place.TheVariants.{First, Second}
 use Rattle.pair.specs.Shown.{Stands, first_after, second_after}
 
+-- Both ways of a test that lead to the same part.
 same_ways : (t : Bool) (p : Part) → p ≡ cond t p p
 same_ways true p = refl
 same_ways false p = refl

@@ -74,7 +74,7 @@ fn unlike_pages_leave_the_second_out(rt: HostRuntime) {
     assert_eq!(rt; part.endurance(), 3);
 }
 
-// A record whose counts are above their limits: all its pages count as written, and it is worn out.
+// A record whose counts are above their limits: all its pages count as written, and it has reached its endurance.
 #[test]
 fn counts_are_limited_on_attach(rt: HostRuntime) {
     let mut bytes = [255; RECORD];

@@ -1,11 +1,15 @@
 -- The promise, over whole lives.
-use Rattle.std.proofs.Common.{◌≡◌, ℕ, ◌+◌, Bool, true, false, List, [], ◌∷◌, Option, sym, refl, ap, ◌∙◌, subst, ⊎_elim, arith}
+use Rattle.std.proofs.Common.{◌≡◌, ℕ, ◌+◌, Bool, true, false, List, [], ◌∷◌, Ok, Err, Option, Result, sym, refl, ap, ◌∙◌, subst, ⊎_elim, arith}
 use Rattle.std.proofs.lemmas.Bool.{cases_Bool, both_ways, cond-true, cond-false}
 use Rattle.flash.specs.Part.{wear}
+use Rattle.rules.specs.declared.refusal.Refusal.{Refusal}
+use Rattle.rules.specs.declared.answer.Usage.{Usage}
 use Rattle.rules.specs.declared.answer.Answer.{Answer}
-use Rattle.rules.specs.State.{Bytes, State, page_map}
+use Rattle.rules.specs.declared.answer.Answer.TheVariants.{Used}
+use Rattle.rules.specs.State.{Bytes, State, live_pages, page_map}
+use Rattle.rules.specs.Calls.{Asks}
 use Rattle.rules.specs.Stands.{Stands}
-use Rattle.rules.specs.Runs.{Call, Run, Life}
+use Rattle.rules.specs.Runs.{Call, answer_of, Run, Life}
 use Rattle.rules.specs.Runs.Call.{write, read, trim, collect, scan, usage, save}
 use Rattle.rules.specs.Promise.{seen, is_host, host_calls, SameAnswers, stored_and_moved, settled_from, Promise}
 use Rattle.rules.specs.Promise.Seen.{refused}
@@ -94,6 +98,12 @@ same_answers print print' (k ∷ hs) ks s u t v h h' same (s₁, step, run) run'
 pub life_stands : (l : Life) → Stands l.print l.end
 life_stands l = (run_keeps l.print l.start l.history l.end (made_stands l.print l.start l.made) l.ran).standing
 
+-- A usage question is answered with the pages in use.
+usage_asked : (s : State) (r : Result Usage Refusal) (a : Answer) (t : State) → a ≡ answer_of Used r → Asks s r t
+    → (u : Usage) × (a ≡ Used u) × (u.live ≡ live_pages s)
+usage_asked s (Ok u) a t is (same, live, dead, unwritten) = (u, is, live)
+usage_asked s (Err e) a t is never = absurd never
+
 pub promise : Promise
 promise l =
     let start = made_stands l.print l.start l.made in
@@ -106,4 +116,5 @@ promise l =
       enough = pages_enough l.print l.end m;
       few = pages_few l.print l.end m;
       exact = λ now. r.exact false (λ never. absurd (both_ways false refl never)) now;
+      asked = λ a t step. usage_asked l.end step.0 a t step.1 step.2;
     }

@@ -33,7 +33,7 @@ dead_in s b = tally (λ k. is_dead s (b * per_block s + k)) (per_block s)
 abbrev pub Collectable : State → ℕ → Type 0
 Collectable s b = (b < block_count s) × (is_closed s b ≡ true) × (0 < dead_in s b)
 
--- .. and can still be erased.
+-- Block b can be collected: it is closed, has a dead page, and can still be erased.
 abbrev pub Candidate : State → ℕ → Type 0
 Candidate s b = Collectable s b × (erases s.part b < s.part.endurance)
 

@@ -18,7 +18,7 @@ use Rattle.rules.specs.Runs.Call.{write, read, collect, usage}
 abbrev pub fresh_part : Part
 fresh_part = record { blocks = replicate 3 (record { pages = []; erases = 0 }); per_block = 2; endurance = 100 }
 
--- .. and the device that a format of it makes, with 3 host pages.
+-- The state that a format of it makes, with 3 host pages.
 abbrev pub example_start : State
 example_start = formatted fresh_part 3
 

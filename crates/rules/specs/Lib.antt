@@ -1,4 +1,5 @@
 pub mod Numbers
+pub mod Words
 pub mod State
 pub mod Tables
 pub mod Store

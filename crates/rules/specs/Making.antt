@@ -8,7 +8,7 @@ use Rattle.rules.specs.Store.{Entered, Offers}
 use Rattle.rules.specs.Tables.{with_store}
 use Rattle.rules.specs.Calls.{NoneOffered, below}
 
--- 2 to 255 blocks, 1 to 64 pages a block, at most 4,095 flash pages.
+-- 2 to 255 blocks, 1 to 64 pages a block, at most 4,095 flash pages: none has the number that means "no page".
 abbrev pub geometry_fits : ℕ → ℕ → Bool
 geometry_fits blocks pages =
     (nat_le 2 blocks && nat_le blocks 255) && ((nat_le 1 pages && nat_le pages 64) && nat_le (blocks * pages) 4095)
@@ -17,9 +17,15 @@ geometry_fits blocks pages =
 abbrev pub host_pages_fit : ℕ → ℕ → ℕ → Bool
 host_pages_fit blocks pages host = nat_le 1 host && nat_le (host + 1) ((blocks - 1) * pages)
 
--- Format and load refuse a part by its sizes with 1, then with 2; 0 where they do not.
+-- Format refuses a part and a number of host pages by their sizes with 1, then with 2; 0 where it does not. Load refuses the part with 1 too,
+-- and the number of host pages that an image has with 12.
 abbrev pub size_refusal : ℕ → ℕ → ℕ → ℕ
 size_refusal blocks pages host = cond (geometry_fits blocks pages) (cond (host_pages_fit blocks pages host) 0 2) 1
+
+-- An answer to the question whether sizes are taken, as a number: 0 for yes, else the refusal's.
+abbrev pub sizes_answer : Result (Unit {0}) Refusal → ℕ
+sizes_answer (Ok u) = 0
+sizes_answer (Err e) = refusal_number e
 
 -- The sizes are accepted.
 abbrev pub SizesFit : Part → ℕ → Type 0
@@ -94,7 +100,8 @@ Refilled print s (q ∷ qs) store after =
     × Refilled print s qs next after
 
 -- A state that load brings back: sizes that fit, words and entries that agree with the flash, and a store refilled from
--- the pages in use.
+-- the pages in use. Not yet whole: which bytes say which words and entries, and which fault is found in which bytes, is not
+-- said here before the bytes of an image are defined.
 pub record Loaded (print : Bytes → ℕ) (s : State) : Type 0 where
   pub sizes : SizesFit s.part (host_pages s)
   pub entries : length s.shared ≡ flash_pages s

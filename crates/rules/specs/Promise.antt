@@ -2,11 +2,12 @@
 use Rattle.std.specs.Prelude.{◌≡◌, ℕ, ◌+◌, ◌≤◌, Bool, true, false, cond, ◌||◌, List, [], ◌∷◌, length, Some, None, Option, ◌==◌, ◌≢◌}
 use Rattle.flash.specs.Part.{wear}
 use Rattle.page.specs.Same.{same_bytes}
+use Rattle.rules.specs.declared.answer.Usage.{Usage}
 use Rattle.rules.specs.declared.answer.Answer.{Answer}
 use Rattle.rules.specs.declared.answer.Answer.TheVariants.{Refused, Wrote, Page, Number, Used}
 use Rattle.rules.specs.Numbers.{refusal_number, kind_number}
-use Rattle.rules.specs.State.{Bytes, live_pages, page_map}
-use Rattle.rules.specs.Runs.{Call, Life}
+use Rattle.rules.specs.State.{Bytes, State, live_pages, page_map}
+use Rattle.rules.specs.Runs.{Call, Step, Life}
 use Rattle.rules.specs.Runs.Call.{write, read, trim, collect, scan, usage, save}
 
 -- What a host sees of an answer: a refusal's number, that a write was accepted, the bytes read, or a number.
@@ -104,7 +105,7 @@ settled_by so scan a = true
 settled_by so usage a = so
 settled_by so (save len) a = so
 
--- .. over a list of calls.
+-- The same over a list of calls.
 abbrev pub settled_from : Bool → List (Call × Answer) → Bool
 settled_from so [] = so
 settled_from so (h ∷ hs) = settled_from (settled_by so h.0 h.1) hs
@@ -136,11 +137,13 @@ pub record Kept (l : Life) : Type 0 where
   pub alike : (m : Life) → page_map l.start ≡ page_map m.start → SameAnswers (host_calls l.history) (host_calls m.history)
   -- The flash's own wear has grown by exactly the pages stored and moved.
   pub worn : wear l.end.part ≡ wear l.start.part + stored_and_moved l.history
-  -- Flash pages in use are never fewer than the different contents held, and never more than the host pages with content ..
+  -- Flash pages in use are never fewer than the different contents held, and never more than the host pages with content.
   pub enough : different (contents (page_map l.end)) ≤ live_pages l.end
   pub few : live_pages l.end ≤ length (contents (page_map l.end))
-  -- .. and exactly the different contents if a scan came and no write or trim was accepted since.
+  -- They are exactly the different contents if a scan came and no write or trim was accepted since.
   pub exact : settled l.history ≡ true → live_pages l.end ≡ different (contents (page_map l.end))
+  -- A usage question asked at the end answers these flash pages in use.
+  pub asked : (a : Answer) (t : State) → Step l.print l.end usage a t → (u : Usage) × (a ≡ Used u) × (u.live ≡ live_pages l.end)
 
 -- The promise: it is kept in every life.
 abbrev pub Promise : Type 0

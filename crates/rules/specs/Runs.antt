@@ -21,7 +21,8 @@ pub data Call : Type 0 where
   usage : Call
   save : ℕ → Call
 
--- Save answers the length of the image, and refuses with 8 if the buffer is shorter.
+-- Save answers the length of the image, and refuses with 8 if the buffer is shorter. Not yet whole: what the bytes of the
+-- buffer are afterwards is not said here before the bytes of an image are defined.
 abbrev pub Saves : State → ℕ → Result ℕ Refusal → State → Type 0
 Saves s len (Ok size) t =
     (t ≡ s) × (size ≡ image_length (block_count s) (per_block s) (host_pages s)) × (size ≤ len)

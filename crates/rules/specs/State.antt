@@ -86,15 +86,15 @@ is_dead s q = is_written s.part q && not (in_use s q)
 abbrev pub hotness : State → ℕ → ℕ
 hotness s q = min 255 (references s q)
 
--- A block is clean if none of its pages is written ..
+-- A block is clean if none of its pages is written.
 abbrev pub is_clean : State → ℕ → Bool
 is_clean s b = written s.part b == 0
 
--- .. closed if all are ..
+-- A block is closed if all of its pages are written.
 abbrev pub is_closed : State → ℕ → Bool
 is_closed s b = written s.part b == per_block s
 
--- .. and part-written if some are.
+-- A block is part-written if some of its pages are written, and not all.
 abbrev pub is_part_written : State → ℕ → Bool
 is_part_written s b = nat_lt 0 (written s.part b) && nat_lt (written s.part b) (per_block s)
 
@@ -110,15 +110,15 @@ in_use_at s b k = in_use s (b * per_block s + k)
 abbrev pub live_in : State → ℕ → ℕ
 live_in s b = tally (in_use_at s b) (per_block s)
 
--- How many flash pages are in use ..
+-- How many flash pages are in use.
 abbrev pub live_pages : State → ℕ
 live_pages s = tally (in_use s) (flash_pages s)
 
--- .. dead ..
+-- How many flash pages are dead.
 abbrev pub dead_pages : State → ℕ
 dead_pages s = tally (is_dead s) (flash_pages s)
 
--- .. and unwritten.
+-- How many flash pages are unwritten.
 abbrev pub unwritten_pages : State → ℕ
 unwritten_pages s = tally (λ q. not (is_written s.part q)) (flash_pages s)
 

@@ -7,8 +7,11 @@ mod examples;
 mod kind;
 mod promise;
 mod refusal;
+mod refusal_text;
 mod run;
+mod size_check;
 mod theorems;
+mod want_of_memory;
 
 pub use answer::{Answer, Usage, Written};
 pub use call::Call;
@@ -16,4 +19,5 @@ pub use examples::worked_sizes;
 pub use kind::Kind;
 pub use promise::promise_is_kept;
 pub use refusal::Refusal;
+pub use size_check::{MOST_FLASH_PAGES, check_sizes};
 pub use theorems::theorems_hold;

@@ -17,9 +17,11 @@ module _ (p : Part) (hidden count b c : ℕ) (shown : b < length (window_of p hi
   pub seen_inside : c < length p.blocks
   seen_inside = omega (arith, seen_count p hidden count)
 
+  -- Its number is below the number of blocks that the window shows at most.
   seen_below : b < count
   seen_below = omega (arith, seen_count p hidden count)
 
+  -- It is the block below.
   pub seen_block : block (window_of p hidden count) b ≡ block p c
   seen_block =
       get_or-take count (drop hidden p.blocks) b no_block seen_below

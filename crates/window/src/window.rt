@@ -88,11 +88,14 @@ impl<F: Flash> Flash for Window<F> {
         }
     }
 
-    // `below` says what the hidden blocks are afterwards: untouched, as only the one block's part below changes.
+    // `below` says what the hidden blocks are afterwards: untouched, as only the one block below changes. `hidden` and `count` say
+    // that no call, and no refusal, moves the window.
     fn program(&mut self, block: usize, page: usize, bytes: &[u8; 256]) -> Result<(), Refusal>
         ensures answer { result ≡ program_answer (window_of (F.Flash.shows self.old.below) self.old.hidden self.old.count) block page }
         ensures after { window_of (F.Flash.shows self.new.below) self.new.hidden self.new.count ≡ either result (appended (window_of (F.Flash.shows self.old.below) self.old.hidden self.old.count) block bytes.now) (window_of (F.Flash.shows self.old.below) self.old.hidden self.old.count) }
         ensures below { F.Flash.shows self.new.below ≡ either result (appended (F.Flash.shows self.old.below) (self.old.hidden + block) bytes.now) (F.Flash.shows self.old.below) }
+        ensures hidden { self.new.hidden ≡ self.old.hidden }
+        ensures count { self.new.count ≡ self.old.count }
     {
         match self.beneath(block) {
             Some(under) => self.below.program(under, page, bytes),
@@ -105,6 +108,8 @@ impl<F: Flash> Flash for Window<F> {
         ensures buffer { buffer.new ≡ either result (content (window_of (F.Flash.shows self.old.below) self.old.hidden self.old.count) block page) buffer.old }
         ensures after { window_of (F.Flash.shows self.new.below) self.new.hidden self.new.count ≡ window_of (F.Flash.shows self.old.below) self.old.hidden self.old.count }
         ensures below { F.Flash.shows self.new.below ≡ F.Flash.shows self.old.below }
+        ensures hidden { self.new.hidden ≡ self.old.hidden }
+        ensures count { self.new.count ≡ self.old.count }
     {
         match self.beneath(block) {
             Some(under) => self.below.read(under, page, buffer),
@@ -116,6 +121,8 @@ impl<F: Flash> Flash for Window<F> {
         ensures answer { result ≡ erase_answer (window_of (F.Flash.shows self.old.below) self.old.hidden self.old.count) block }
         ensures after { window_of (F.Flash.shows self.new.below) self.new.hidden self.new.count ≡ either result (erased (window_of (F.Flash.shows self.old.below) self.old.hidden self.old.count) block) (window_of (F.Flash.shows self.old.below) self.old.hidden self.old.count) }
         ensures below { F.Flash.shows self.new.below ≡ either result (erased (F.Flash.shows self.old.below) (self.old.hidden + block)) (F.Flash.shows self.old.below) }
+        ensures hidden { self.new.hidden ≡ self.old.hidden }
+        ensures count { self.new.count ≡ self.old.count }
     {
         match self.beneath(block) {
             Some(under) => self.below.erase(under),

@@ -3,7 +3,7 @@ use Rattle.fingerprint.specs.Examples.{zeros, starts_with_two_full}
 use Rattle.fingerprint.proofs.Bounds.{fletcher_fits, sample_fits}
 use Rattle.fingerprint.proofs.examples.worked_examples.Goals as goal
 
--- the two pages differ in their first byte
+-- The two pages differ in their first byte.
 differ : zeros ≡ starts_with_two_full → ⊥
 differ e = let first : ◌≡◌ {A = ℕ} 0 255 = ap (λ page. get_or page 0 0) e in omega arith
 

@@ -8,7 +8,7 @@ use Rattle.least.proofs.search.least.Given as given
 use Rattle.least.proofs.search.least.Goals as goal
 use Rattle.least.proofs.search.least.Goals.{then-not-at_most, else-not-at_most}
 
--- the order of the records ranks them
+-- The order of the records ranks them.
 ranks : (g : given.Over) → IsStrictWeakOrder (below g.T.Order.at_most)
 ranks g = IsStrictWeakOrder-from_at_least g.T.Order.at_most g.met.T.Order.total g.met.T.Order.transitive
 

@@ -4,7 +4,7 @@ use Rattle.std.proofs.lemmas.Bool.{both_ways, and_from, eq-eqb}
 use Rattle.page.proofs.Same.{same_from_equal, false_from_different}
 use Rattle.page.proofs.equality.equal.Goals as goal
 
--- two pages that differ in a turn are two different pages
+-- Two pages that differ in a turn are two different pages.
 pub returns-then-not-first-second : goal.returns-then-not-first-second
 returns-then-not-first-second c =
     let a = c.args.a.now in
@@ -14,7 +14,7 @@ returns-then-not-first-second c =
     (and_from _ _ (and_from _ _ (and_from _ _ (at e _) (at e _)) (and_from _ _ (at e _) (at e _))) (and_from _ _ (and_from _ _ (at e _) (at e _)) (and_from _ _ (at e _) (at e _)))) in
     record { value = sym (false_from_different a b apart); same = λ t. absurd (both_ways false refl t); different = λ _. apart }
 
--- at the end every byte has agreed
+-- At the end every byte was the same.
 pub returns : goal.returns
 returns c =
     let a = c.args.a.now in

@@ -2,7 +2,7 @@ use Rattle.std.proofs.Common.{◌≡◌, ◌-◌, ◌%◌, ◌≤◌}
 use Rattle.page.specs.Same.{Agree}
 use Rattle.page.proofs.equality.equal.Given as goal
 
--- the bytes before the index agree
+-- The bytes before the index are the same.
 abbrev pub invariant-loop-i : goal.invariant-loop-i
 invariant-loop-i l = Agree l.a l.b 0 l.i × (l.i % 8 ≡ 0) × (l.i ≤ 256)
 

@@ -3,7 +3,7 @@ use Rattle.fingerprint.specs.Sums.{Reduced}
 use Rattle.fingerprint.specs.Fletcher.{words_of, fletcher_from}
 use Rattle.fingerprint.proofs.sums.Sums.after_words.Given as goal
 
--- the sums are reduced, the index stands at a word, and the sums give with what is left what they gave at the start
+-- The sums are reduced, the index stands at a word, and they give with what is left what they gave at the start.
 abbrev pub invariant-loop-i : goal.invariant-loop-i
 invariant-loop-i l =
     Reduced l.sums

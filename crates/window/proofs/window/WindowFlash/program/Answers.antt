@@ -1,4 +1,4 @@
-use Rattle.std.proofs.Common.{ap, ◌∙◌}
+use Rattle.std.proofs.Common.{refl, ap, ◌∙◌}
 use Rattle.flash.specs.Part.{appended}
 use Rattle.flash.specs.Answers.{either}
 use Rattle.window.proofs.Seen.{seen_program, seen_appended}
@@ -14,4 +14,6 @@ returns-in-Some g c =
       after = seen_appended p w.hidden w.count _ _ s.0 s.1 _ _ _ c.program.ensures.after;
       below = c.program.ensures.after
           ∙ ap (λ i. either c.program.result (appended p i c.args.bytes.now) p) s.1;
+      hidden = refl;
+      count = refl;
     }
