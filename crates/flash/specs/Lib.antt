@@ -1,3 +1,4 @@
+pub mod Limits
 pub mod Part
 pub mod Answers
 pub mod Laws

@@ -3,8 +3,10 @@
 
 mod flash;
 mod laws;
-mod refusal;
+mod limits;
+mod part_refusal;
 
 pub use flash::Flash;
 pub use laws::laws_hold;
-pub use refusal::Refusal;
+pub use limits::{MOST_BLOCKS, MOST_ENDURANCE, MOST_PAGES_PER_BLOCK};
+pub use part_refusal::PartRefusal;

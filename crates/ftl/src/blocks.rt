@@ -8,13 +8,13 @@ use least::Order;
 
 // A block and how often it was erased.
 #[derive(Clone, Copy)]
-pub struct Worn {
+pub struct BlockErases {
     pub block: usize,
     pub erases: u32,
 }
 
 // Ordered by the erase count.
-impl Order for Worn {
+impl Order for BlockErases {
     ghost at_most = { λ x y. nat_le x.erases y.erases };
 
     ghost total = { Prim.search rules };
@@ -27,11 +27,11 @@ impl Order for Worn {
 }
 
 // The block with its erase count.
-pub(crate) fn wear_of<F: Flash>(part: &F, block: usize) -> Worn
+pub(crate) fn erases_of<F: Flash>(part: &F, block: usize) -> BlockErases
     ensures block { result.block ≡ block }
     ensures erases { result.erases ≡ erases (F.Flash.shows part.now) block }
 {
-    Worn {
+    BlockErases {
         block,
         erases: part.erases(block),
     }

@@ -1,10 +1,10 @@
 // Two record kinds of different shape that join the search for a least record, and tests of the search over them.
 #![tactic(auto)]
 
-mod block;
-mod entry;
+mod parcel;
+mod seat;
 #[cfg(test)]
 mod tests;
 
-pub use block::Block;
-pub use entry::Entry;
+pub use parcel::Parcel;
+pub use seat::Seat;

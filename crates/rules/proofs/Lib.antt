@@ -28,3 +28,4 @@ pub mod Gathered
 pub mod Worked
 pub mod Choosing
 pub mod Answered
+mod Makings

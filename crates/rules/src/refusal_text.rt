@@ -1,20 +1,15 @@
 // A refusal in words, for a person.
-ghost use Rattle.std.specs.Prelude.{◌≡◌, Some};
-ghost use Rattle.rules.specs.Words.{refusal_words, refusal_text};
-
 use crate::refusal::Refusal;
 use std::fmt;
 
 impl Refusal {
-    // The reason in words.
-    pub fn words(self) -> &'static str
-        ensures value { result.now ≡ refusal_words self }
-    {
+    // The reason in a few words.
+    fn reason(self) -> &'static str {
         match self {
             Refusal::Geometry => "geometry",
             Refusal::HostPages => "number of host pages",
             Refusal::WornOut => "worn out",
-            Refusal::NoSuchPage => "no such host page",
+            Refusal::NoSuchHostPage => "no such host page",
             Refusal::Length => "not 256 bytes",
             Refusal::Empty => "empty page",
             Refusal::NothingToCollect => "nothing to collect",
@@ -31,13 +26,11 @@ impl Refusal {
     }
 }
 
-// The number, and the words in brackets.
+// The number, and the reason behind it.
 impl fmt::Display for Refusal {
-    ghost output = { λ e. Some (refusal_text e) };
-
     fn fmt<W: fmt::Write>(&self, f: &mut fmt::Formatter<W>) -> fmt::Result {
         let number = self.number();
-        let words = self.words();
-        write!(f, "{number} ({words})")
+        let reason = self.reason();
+        write!(f, "{number} ({reason})")
     }
 }
