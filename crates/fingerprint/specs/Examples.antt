@@ -1,13 +1,12 @@
 -- Worked examples of both kinds, and the bound of their numbers.
 use Rattle.std.specs.Prelude.{◌≡◌, ℕ, ◌^◌, ◌<◌, List, replicate, slice_set}
 use Rattle.std.specs.List.{AllByRecursion}
-use Rattle.page.specs.Size.{page_size}
 use Rattle.fingerprint.specs.Sample.{sample_of}
 use Rattle.fingerprint.specs.Fletcher.{fletcher_of}
 
 -- The page of zeros.
 abbrev pub zeros : List ℕ
-zeros = replicate page_size 0
+zeros = replicate 256 0
 
 -- The page that begins with 1 and is zeros after it.
 abbrev pub starts_with_one : List ℕ

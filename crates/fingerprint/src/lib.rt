@@ -1,15 +1,15 @@
 // Fingerprints of pages: an interface, and two kinds of it.
 #![tactic(auto)]
 
+mod checksum;
 mod examples;
 mod fingerprint;
-mod fletcher_fingerprint;
-mod fletcher_number;
-mod sample_fingerprint;
+mod fletcher_kind;
+mod sample;
 mod sums;
 
+pub use checksum::fletcher;
 pub use examples::worked_examples;
 pub use fingerprint::Fingerprint;
-pub use fletcher_fingerprint::Fletcher;
-pub use fletcher_number::fletcher;
-pub use sample_fingerprint::Sample;
+pub use fletcher_kind::Fletcher;
+pub use sample::Sample;

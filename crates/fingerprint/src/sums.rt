@@ -1,5 +1,6 @@
-ghost use Rattle.std.specs.Prelude.{◌≡◌, ◌+◌, ◌-◌, ◌*◌, ◌%◌, ◌<◌, ◌≤◌, length, slice_index};
-ghost use Rattle.fingerprint.specs.Sums.{Reduced, number_onward};
+ghost use Rattle.std.specs.Prelude.{◌≡◌, ◌+◌, ◌-◌, ◌*◌, ◌%◌, ◌<◌, ◌≤◌, length, drop, slice_index};
+ghost use Rattle.fingerprint.specs.Sums.{Reduced};
+ghost use Rattle.fingerprint.specs.Fletcher.{words_of, fletcher_from};
 
 // What the sums are reduced by.
 const MODULUS: u64 = 65_535;
@@ -8,7 +9,7 @@ const MODULUS: u64 = 65_535;
 pub const GROUP: usize = 8;
 
 // The most bytes that are summed before the sums are reduced: few enough that neither sum passes 64 bits.
-pub const CHUNK: usize = 65_536;
+pub const BLOCK: usize = 65_536;
 
 // The two running sums, each below the modulus.
 #[derive(Clone, Copy)]
@@ -19,13 +20,13 @@ pub struct Sums {
 
 impl Sums {
     // The sums after the words that stand from `start` to `end`. A reduction at every word is slow, so there is one at the end.
-    pub(crate) fn after_chunk(self, bytes: &[u8], start: usize, end: usize) -> Sums
+    pub(crate) fn after_block(self, bytes: &[u8], start: usize, end: usize) -> Sums
         requires reduced { Reduced self }
         requires within { (start ≤ end) × (end ≤ length bytes.now) }
         requires groups { (end - start) % 8 ≡ 0 }
         requires short { end - start ≤ 65536 }
         ensures reduced { Reduced result }
-        ensures rest { number_onward result bytes.now end ≡ number_onward self bytes.now start }
+        ensures rest { fletcher_from result.a result.b (words_of (drop end bytes.now)) ≡ fletcher_from self.a self.b (words_of (drop start bytes.now)) }
     {
         let mut a = self.a;
         let mut b = self.b;
@@ -53,7 +54,7 @@ impl Sums {
         requires within { (start ≤ end) × (end ≤ length bytes.now) }
         requires words { (end - start) % 2 ≡ 0 }
         ensures reduced { Reduced result }
-        ensures rest { number_onward result bytes.now end ≡ number_onward self bytes.now start }
+        ensures rest { fletcher_from result.a result.b (words_of (drop end bytes.now)) ≡ fletcher_from self.a self.b (words_of (drop start bytes.now)) }
     {
         let mut sums = self;
         let mut i = start;

@@ -1,9 +1,9 @@
-use page::{PAGE_SIZE, equal};
+use page::equal;
 
 #[test]
 fn a_page_equals_its_copy(rt: HostRuntime) {
-    let mut page = [0; PAGE_SIZE];
-    for i in 0..PAGE_SIZE {
+    let mut page = [0; 256];
+    for i in 0..256 {
         page[i] = (i % 251) as u8;
     }
     let copy = page;
@@ -12,7 +12,7 @@ fn a_page_equals_its_copy(rt: HostRuntime) {
 
 #[test]
 fn first_byte_differs(rt: HostRuntime) {
-    let page = [9; PAGE_SIZE];
+    let page = [9; 256];
     let mut other = page;
     other[0] = 8;
     assert!(rt; !equal(&page, &other));
@@ -20,7 +20,7 @@ fn first_byte_differs(rt: HostRuntime) {
 
 #[test]
 fn last_byte_differs(rt: HostRuntime) {
-    let page = [9; PAGE_SIZE];
+    let page = [9; 256];
     let mut other = page;
     other[255] = 8;
     assert!(rt; !equal(&page, &other));
@@ -29,8 +29,8 @@ fn last_byte_differs(rt: HostRuntime) {
 // Each place in turn is the only one that differs.
 #[test]
 fn each_byte_counts(rt: HostRuntime) {
-    let page = [0; PAGE_SIZE];
-    for i in 0..PAGE_SIZE {
+    let page = [0; 256];
+    for i in 0..256 {
         let mut other = page;
         other[i] = 128;
         assert!(rt; !equal(&page, &other));
@@ -40,7 +40,7 @@ fn each_byte_counts(rt: HostRuntime) {
 // One number, and two pages: only the comparison tells them apart.
 #[test]
 fn pages_with_one_fingerprint(rt: HostRuntime) {
-    let zeros = [0; PAGE_SIZE];
+    let zeros = [0; 256];
     let mut two_full = zeros;
     two_full[0] = 255;
     two_full[1] = 255;

@@ -1,9 +1,8 @@
 use fingerprint::{Fingerprint, Sample};
-use page::PAGE_SIZE;
 
 #[test]
 fn first_byte_is_highest(rt: HostRuntime) {
-    let mut page = [0; PAGE_SIZE];
+    let mut page = [0; 256];
     assert_eq!(rt; Sample.of(&page), 0);
     page[0] = 1;
     assert_eq!(rt; Sample.of(&page), 16_777_216);
@@ -15,7 +14,7 @@ fn first_byte_is_highest(rt: HostRuntime) {
 
 #[test]
 fn other_bytes_do_not_count(rt: HostRuntime) {
-    let mut page = [255; PAGE_SIZE];
+    let mut page = [255; 256];
     assert_eq!(rt; Sample.of(&page), 0xFFFF_FFFF);
     page[4] = 0;
     page[255] = 0;

@@ -1,11 +1,10 @@
 use crate::sharing::share_a_number;
 use fingerprint::{Fletcher, Sample};
-use page::PAGE_SIZE;
 
 // The page of zeros and the page that begins 255, 255: one number to Fletcher, two to Sample.
 #[test]
 fn each_kind_has_its_own_pairs(rt: HostRuntime) {
-    let zeros = [0; PAGE_SIZE];
+    let zeros = [0; 256];
     let mut two_full = zeros;
     two_full[0] = 255;
     two_full[1] = 255;

@@ -1,9 +1,9 @@
 -- A part that stands on another answers for its block b as the other does for block c, if the two blocks are alike.
 use Rattle.std.proofs.Common.{◌≡◌, ℕ, ◌<◌, ◌≤◌, ltb, length, Ok, Err, le-ltb, lt-ltb}
 use Rattle.std.proofs.lemmas.Bool.{cond-false}
-use Rattle.flash.specs.declared.part_refusal.PartRefusal.TheVariants.{NoSuchPage}
+use Rattle.flash.specs.declared.refusal.Refusal.TheVariants.{NoSuchPage}
 use Rattle.flash.specs.Part.{Part, written, erases}
-use Rattle.flash.specs.Answers.{PartAnswer, program_answer, read_answer, erase_answer, if_accepted}
+use Rattle.flash.specs.Answers.{Answer, program_answer, read_answer, erase_answer, either}
 
 module _ (p q : Part) (b c : ℕ) (in_p : b < length p.blocks) (in_q : c < length q.blocks) where
   -- They answer a program of page k alike.
@@ -33,7 +33,7 @@ module _ (p : Part) (b : ℕ) (out : length p.blocks ≤ b) where
   erase_missing = cond-false _ _ _ (le-ltb b (length p.blocks) out)
 
 -- What follows from either state follows from the one that is taken.
-pub if_accepted_by : {X Y : Type 0} (f : X → Y) (r : PartAnswer) (new old : X) (new' old' : Y)
-    → f new ≡ new' → f old ≡ old' → f (if_accepted r new old) ≡ if_accepted r new' old'
-if_accepted_by f (Ok u) new old new' old' n o = n
-if_accepted_by f (Err e) new old new' old' n o = o
+pub either_by : {X Y : Type 0} (f : X → Y) (r : Answer) (new old : X) (new' old' : Y)
+    → f new ≡ new' → f old ≡ old' → f (either r new old) ≡ either r new' old'
+either_by f (Ok u) new old new' old' n o = n
+either_by f (Err e) new old new' old' n o = o

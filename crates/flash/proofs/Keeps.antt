@@ -2,8 +2,7 @@
 use Rattle.std.proofs.Common.{◌≡◌, ℕ, ◌<◌, List, [], ◌∷◌, ◌++◌, length, get_or, sym, refl, ap, ◌∙◌, subst, ⊎_elim, arith}
 use Rattle.std.proofs.lemmas.List.{length_push, length-set, get_or_push, get_or_append_left, get_or-set_same, get_or-set_other}
 use Rattle.std.proofs.lemmas.Bool.{cases_eq}
-use Rattle.page.specs.Size.{page_size}
-use Rattle.flash.specs.Part.{Block, Part, SoundBlock, Sound, no_block, block, page_bytes, written, with_block, appended, erased}
+use Rattle.flash.specs.Part.{Block, Part, SoundBlock, Sound, no_block, block, content, written, with_block, appended, erased}
 
 -- The block that was put in place b stands there.
 pub block_put : (p : Part) (b : ℕ) (new : Block) → b < length p.blocks → block (with_block p b new) b ≡ new
@@ -27,7 +26,7 @@ sound_put p b new h s w = record {
 
 -- A page more in a block that has room keeps a part well-formed.
 pub sound_appended : (p : Part) (b : ℕ) (x : List ℕ)
-    → b < length p.blocks → written p b < p.per_block → length x ≡ page_size → Sound p → Sound (appended p b x)
+    → b < length p.blocks → written p b < p.per_block → length x ≡ 256 → Sound p → Sound (appended p b x)
 sound_appended p b x h room full w =
     let old = w.each b h in let xs = (block p b).pages in let n = length_push (block p b).pages x in
     sound_put p b _ h
@@ -48,23 +47,23 @@ pub sound_erased : (p : Part) (b : ℕ)
 sound_erased p b h left w =
     sound_put p b _ h (record { room = omega arith; worn_at_most = omega arith; whole = λ k l. absurd (omega arith) }) w
 
--- The new page of a program has the bytes programmed.
-pub bytes_appended_here : (p : Part) (b : ℕ) (x : List ℕ)
-    → b < length p.blocks → page_bytes (appended p b x) b (written p b) ≡ x
-bytes_appended_here p b x h =
+-- What is read after a program: the new page is the bytes programmed ..
+pub content_appended_here : (p : Part) (b : ℕ) (x : List ℕ)
+    → b < length p.blocks → content (appended p b x) b (written p b) ≡ x
+content_appended_here p b x h =
     ap (λ y. get_or y.pages (written p b) []) (block_put p b _ h) ∙ get_or_push (block p b).pages x [] (written p b) refl
 
--- Every page that was written before it has its own.
-pub bytes_appended_before : (p : Part) (b k : ℕ) (x : List ℕ)
-    → b < length p.blocks → k < written p b → page_bytes (appended p b x) b k ≡ page_bytes p b k
-bytes_appended_before p b k x h l =
+-- .. every page written before it is as it was ..
+pub content_appended_before : (p : Part) (b k : ℕ) (x : List ℕ)
+    → b < length p.blocks → k < written p b → content (appended p b x) b k ≡ content p b k
+content_appended_before p b k x h l =
     ap (λ y. get_or y.pages k []) (block_put p b _ h) ∙ get_or_append_left (block p b).pages (x ∷ []) [] k l
 
--- So has every page of another block.
-pub bytes_appended_other : (p : Part) (b c k : ℕ) (x : List ℕ)
-    → (c ≡ b → ⊥) → page_bytes (appended p b x) c k ≡ page_bytes p c k
-bytes_appended_other p b c k x ne = ap (λ y. get_or y.pages k []) (block_other p b c _ ne)
+-- .. and so is every page of another block.
+pub content_appended_other : (p : Part) (b c k : ℕ) (x : List ℕ)
+    → (c ≡ b → ⊥) → content (appended p b x) c k ≡ content p c k
+content_appended_other p b c k x ne = ap (λ y. get_or y.pages k []) (block_other p b c _ ne)
 
--- After an erase of another block a page has its bytes.
-pub bytes_erased_other : (p : Part) (b c k : ℕ) → (c ≡ b → ⊥) → page_bytes (erased p b) c k ≡ page_bytes p c k
-bytes_erased_other p b c k ne = ap (λ y. get_or y.pages k []) (block_other p b c _ ne)
+-- What is read after an erase of another block is as it was.
+pub content_erased_other : (p : Part) (b c k : ℕ) → (c ≡ b → ⊥) → content (erased p b) c k ≡ content p c k
+content_erased_other p b c k ne = ap (λ y. get_or y.pages k []) (block_other p b c _ ne)

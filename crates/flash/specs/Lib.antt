@@ -1,4 +1,3 @@
-pub mod Limits
 pub mod Part
 pub mod Answers
 pub mod Laws

@@ -1,7 +1,5 @@
 -- What a flash part means: for each block the pages written since its last erase, and how often it was erased.
 use Rattle.std.specs.Prelude.{◌≡◌, ℕ, ◌+◌, ◌*◌, ◌<◌, ◌≤◌, List, [], ◌∷◌, ◌++◌, length, slice_index_or, slice_set}
-use Rattle.page.specs.Size.{page_size}
-use Rattle.flash.specs.Limits.{most_endurance}
 
 -- One block: the contents written since its last erase, in order, each the list of a page's bytes; and its erase count.
 pub record Block : Type 0 where
@@ -31,8 +29,8 @@ abbrev pub erases : Part → ℕ → ℕ
 erases p b = (block p b).erases
 
 -- The bytes of page k of block b, none for a page that is not written.
-abbrev pub page_bytes : Part → ℕ → ℕ → List ℕ
-page_bytes p b k = slice_index_or (block p b).pages k []
+abbrev pub content : Part → ℕ → ℕ → List ℕ
+content p b k = slice_index_or (block p b).pages k []
 
 -- The part in which block b is another.
 abbrev pub with_block : Part → ℕ → Block → Part
@@ -47,16 +45,16 @@ appended p b x =
 abbrev pub erased : Part → ℕ → Part
 erased p b = with_block p b (record { pages = []; erases = (block p b).erases + 1 })
 
--- A well-formed block of a part: no more pages than it has room for, no more erases than it endures, every page whole.
+-- A well-formed block of a part: no more pages than it has room for, no more erases than it endures, every page 256 bytes.
 pub record SoundBlock (per_block endurance : ℕ) (x : Block) : Type 0 where
   pub room : length x.pages ≤ per_block
   pub worn_at_most : x.erases ≤ endurance
-  pub whole : (k : ℕ) → k < length x.pages → length (slice_index_or x.pages k []) ≡ page_size
+  pub whole : (k : ℕ) → k < length x.pages → length (slice_index_or x.pages k []) ≡ 256
 
--- A well-formed part: every block is, and no block endures more erases than the limit.
+-- A well-formed part: every block is, and no block endures more than a million erases.
 pub record Sound (p : Part) : Type 0 where
   pub each : (b : ℕ) → b < length p.blocks → SoundBlock p.per_block p.endurance (block p b)
-  pub limit : p.endurance ≤ most_endurance
+  pub limit : p.endurance ≤ 1000000
 
 -- The wear of some blocks: pages written since the last erase, and a block's worth of pages for each erase.
 abbrev pub wear_of : ℕ → List Block → ℕ

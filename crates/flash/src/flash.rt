@@ -1,10 +1,9 @@
 // The interface of a flash part. Whatever stands above a part knows it by `shows` alone.
 ghost use Rattle.std.specs.Prelude.{◌≡◌, length};
-ghost use Rattle.flash.specs.Part.{Part, Sound, written, erases, page_bytes};
-ghost use Rattle.flash.specs.Answers.{program_answer, read_answer, erase_answer, if_accepted, after_program, after_erase};
+ghost use Rattle.flash.specs.Part.{Part, Sound, written, erases, content, appended, erased};
+ghost use Rattle.flash.specs.Answers.{program_answer, read_answer, erase_answer, either};
 
-use crate::part_refusal::PartRefusal;
-use page::PAGE_SIZE;
+use crate::refusal::Refusal;
 
 pub trait Flash {
     // What the part means now.
@@ -31,29 +30,17 @@ pub trait Flash {
     fn erases(&self, block: usize) -> u32
         ensures value { result ≡ erases (shows self.now) block };
 
-    // Writes the next page of the block.
-    fn program(
-        &mut self,
-        block: usize,
-        page: usize,
-        bytes: &[u8; PAGE_SIZE],
-    ) -> Result<(), PartRefusal>
+    fn program(&mut self, block: usize, page: usize, bytes: &[u8; 256]) -> Result<(), Refusal>
         ensures answer { result ≡ program_answer (shows self.old) block page }
-        ensures after { shows self.new ≡ after_program result (shows self.old) block bytes.now };
+        ensures after { shows self.new ≡ either result (appended (shows self.old) block bytes.now) (shows self.old) };
 
-    // Copies a written page. A driver needs the bus, and a part may keep a record of its reads, hence `&mut`; what it shows stays.
-    fn read(
-        &mut self,
-        block: usize,
-        page: usize,
-        buffer: &mut [u8; PAGE_SIZE],
-    ) -> Result<(), PartRefusal>
+    // A driver needs the bus, and a part may keep a record of its reads, hence `&mut`; what it shows stays.
+    fn read(&mut self, block: usize, page: usize, buffer: &mut [u8; 256]) -> Result<(), Refusal>
         ensures answer { result ≡ read_answer (shows self.old) block page }
-        ensures buffer { buffer.new ≡ if_accepted result (page_bytes (shows self.old) block page) buffer.old }
+        ensures buffer { buffer.new ≡ either result (content (shows self.old) block page) buffer.old }
         ensures after { shows self.new ≡ shows self.old };
 
-    // Makes every page of the block unwritten, and counts it.
-    fn erase(&mut self, block: usize) -> Result<(), PartRefusal>
+    fn erase(&mut self, block: usize) -> Result<(), Refusal>
         ensures answer { result ≡ erase_answer (shows self.old) block }
-        ensures after { shows self.new ≡ after_erase result (shows self.old) block };
+        ensures after { shows self.new ≡ either result (erased (shows self.old) block) (shows self.old) };
 }

@@ -3,10 +3,8 @@
 
 mod flash;
 mod laws;
-mod limits;
-mod part_refusal;
+mod refusal;
 
 pub use flash::Flash;
 pub use laws::laws_hold;
-pub use limits::{MOST_BLOCKS, MOST_ENDURANCE, MOST_PAGES_PER_BLOCK};
-pub use part_refusal::PartRefusal;
+pub use refusal::Refusal;

@@ -8,13 +8,13 @@ use least::Order;
 
 // A block and how often it was erased.
 #[derive(Clone, Copy)]
-pub struct BlockErases {
+pub struct Worn {
     pub block: usize,
     pub erases: u32,
 }
 
 // Ordered by the erase count.
-impl Order for BlockErases {
+impl Order for Worn {
     ghost at_most = { λ x y. nat_le x.erases y.erases };
 
     ghost total = { Prim.search rules };
@@ -27,11 +27,11 @@ impl Order for BlockErases {
 }
 
 // The block with its erase count.
-pub(crate) fn erases_of<F: Flash>(part: &F, block: usize) -> BlockErases
+pub(crate) fn wear_of<F: Flash>(part: &F, block: usize) -> Worn
     ensures block { result.block ≡ block }
     ensures erases { result.erases ≡ erases (F.Flash.shows part.now) block }
 {
-    BlockErases {
+    Worn {
         block,
         erases: part.erases(block),
     }

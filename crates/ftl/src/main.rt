@@ -2,13 +2,12 @@
 #![tactic(auto)]
 
 mod blocks;
-mod fingerprints;
 mod pages;
 mod parts;
+mod prints;
 mod promises;
 
 use memory::MemoryPart;
-use page::PAGE_SIZE;
 use pair::Pair;
 use std::io;
 use window::Window;
@@ -16,11 +15,8 @@ use window::Window;
 // Pages to a block in both memories.
 const PAGES: usize = 2;
 
-// Blocks in each memory.
-const BLOCKS: usize = 3;
-
-// Each block takes 8 bytes and its pages.
-const MEMORY: usize = BLOCKS * (8 + PAGE_SIZE * PAGES);
+// Three blocks of 8 + 256 * 2 bytes.
+const MEMORY: usize = 1560;
 
 fn main(rt: HostRuntime) -> io::Result<()> {
     let mut first = [0; MEMORY];
@@ -30,10 +26,7 @@ fn main(rt: HostRuntime) -> io::Result<()> {
         MemoryPart::fresh(&mut second, PAGES, 50),
     );
     let mut part = Window::new(pair, 1, 4);
-    println!(rt;
-        "Two memory parts of {BLOCKS} blocks make a pair; a window hides its block 0 and shows its blocks 1 to 4 as 0 to 3."
-    )?;
     parts::demonstrate(&rt, &mut part)?;
-    fingerprints::demonstrate(&rt)?;
+    prints::demonstrate(&rt)?;
     promises::demonstrate(&rt)
 }

@@ -1,21 +1,16 @@
-// Which sizes the rules take, and how long their images are.
-use rules::{check_sizes, worked_sizes};
+// What the rules accept, and that their promise is proved.
+use rules::{promise_is_kept, theorems_hold, worked_sizes};
 use std::io;
 
 pub(crate) fn demonstrate(rt: &HostRuntime) -> io::Result<()> {
-    show_sizes(rt, 64, 64, 1)?;
-    show_sizes(rt, 65, 63, 4031)?;
-    show_sizes(rt, 65, 63, 4032)?;
-    show_sizes(rt, 2, 1, 1)?;
-    let [_, _, _, _, small, large] = worked_sizes();
+    let [too_many, most, one_more, no_room, small, large] = worked_sizes();
+    println!(rt; "64 blocks of 64 pages: {too_many}")?;
+    println!(rt; "65 blocks of 63 pages, 4031 host pages: {most}")?;
+    println!(rt; "65 blocks of 63 pages, 4032 host pages: {one_more}")?;
+    println!(rt; "2 blocks of 1 page, 1 host page: {no_room}")?;
     println!(rt; "image of 3 blocks of 2 pages, 3 host pages: {small} bytes")?;
-    println!(rt; "image of 255 blocks of 16 pages, 4063 host pages: {large} bytes")
-}
-
-fn show_sizes(rt: &HostRuntime, blocks: usize, pages: usize, host: usize) -> io::Result<()> {
-    print!(rt; "{blocks} blocks of {pages} pages, {host} host pages: ")?;
-    match check_sizes(blocks, pages, host) {
-        Ok(()) => println!(rt; "accepted"),
-        Err(refusal) => println!(rt; "refused with {refusal}"),
-    }
+    println!(rt; "image of 255 blocks of 16 pages, 4063 host pages: {large} bytes")?;
+    let kept = promise_is_kept();
+    let held = theorems_hold();
+    println!(rt; "the promise is proved: {kept}; the theorems about the rules: {held}")
 }

@@ -1,15 +1,15 @@
 -- The orders of the two record kinds.
 use Rattle.std.specs.Prelude.{Bool, true, false, ◌&&◌, ◌||◌, ◌==◌, nat_le, nat_lt}
-use Rattle.least_tests.specs.declared.parcel.Parcel.{Parcel}
-use Rattle.least_tests.specs.declared.seat.Seat.{Seat}
-use Rattle.least_tests.specs.declared.seat.Seat.TheVariants.{Free, Taken}
+use Rattle.least_tests.specs.declared.block.Block.{Block}
+use Rattle.least_tests.specs.declared.entry.Entry.{Entry}
+use Rattle.least_tests.specs.declared.entry.Entry.TheVariants.{Free, Held}
 
--- The first parcel weighs at most as much as the second.
-abbrev pub by_weight : Parcel → Parcel → Bool
-by_weight x y = nat_le x.weight y.weight
+-- the first block was erased at most as often as the second
+abbrev pub less_erased : Block → Block → Bool
+less_erased x y = nat_le x.erased y.erased
 
--- A free seat is at most every seat; of two taken ones the row decides, and then the time.
-abbrev pub by_row : Seat → Seat → Bool
-by_row Free other = true
-by_row (Taken row since) Free = false
-by_row (Taken row since) (Taken row' since') = nat_lt row row' || (row == row' && nat_le since since')
+-- a free entry is at most every entry; of two held ones the heat decides, and then the time of the last use
+abbrev pub colder : Entry → Entry → Bool
+colder Free other = true
+colder (Held heat used) Free = false
+colder (Held heat used) (Held heat' used') = nat_lt heat heat' || (heat == heat' && nat_le used used')

@@ -1,10 +1,10 @@
 // Two record kinds of different shape that join the search for a least record, and tests of the search over them.
 #![tactic(auto)]
 
-mod parcel;
-mod seat;
+mod block;
+mod entry;
 #[cfg(test)]
 mod tests;
 
-pub use parcel::Parcel;
-pub use seat::Seat;
+pub use block::Block;
+pub use entry::Entry;

@@ -1,71 +1,71 @@
-use crate::parcel::Parcel;
-use crate::seat::Seat;
+use crate::block::Block;
+use crate::entry::Entry;
 use least::least;
 
 #[test]
 fn nothing_among_no_records(rt: HostRuntime) {
-    let none: [Parcel; 0] = [];
+    let none: [Block; 0] = [];
     assert_eq!(rt; least(&none), None);
 }
 
 #[test]
 fn the_only_record(rt: HostRuntime) {
     assert_eq!(rt;
-        least(&[Parcel {
+        least(&[Block {
             number: 7,
-            weight: 100,
+            erased: 100,
         }],),
         Some(0)
     );
 }
 
 #[test]
-fn lightest_parcel_first_in_the_middle_and_last(rt: HostRuntime) {
-    let heavy = Parcel {
+fn least_erased_block_first_in_the_middle_and_last(rt: HostRuntime) {
+    let worn = Block {
         number: 1,
-        weight: 30,
+        erased: 30,
     };
-    let middling = Parcel {
+    let half = Block {
         number: 2,
-        weight: 20,
+        erased: 20,
     };
-    let light = Parcel {
+    let fresh = Block {
         number: 3,
-        weight: 0,
+        erased: 0,
     };
-    assert_eq!(rt; least(&[light, heavy, middling]), Some(0));
-    assert_eq!(rt; least(&[heavy, light, middling]), Some(1));
-    assert_eq!(rt; least(&[heavy, middling, light]), Some(2));
+    assert_eq!(rt; least(&[fresh, worn, half]), Some(0));
+    assert_eq!(rt; least(&[worn, fresh, half]), Some(1));
+    assert_eq!(rt; least(&[worn, half, fresh]), Some(2));
 }
 
 #[test]
-fn largest_weights_compare(rt: HostRuntime) {
-    let most = Parcel {
+fn largest_counts_compare(rt: HostRuntime) {
+    let most = Block {
         number: 1,
-        weight: u32::MAX,
+        erased: u32::MAX,
     };
-    let one_less = Parcel {
+    let one_less = Block {
         number: 2,
-        weight: u32::MAX - 1,
+        erased: u32::MAX - 1,
     };
     assert_eq!(rt; least(&[most, one_less, most]), Some(1));
 }
 
 #[test]
-fn free_seat_before_the_first_row(rt: HostRuntime) {
-    let first = Seat::Taken { row: 0, since: 0 };
-    assert_eq!(rt; least(&[first, Seat::Free]), Some(1));
-    assert_eq!(rt; least(&[Seat::Free, first]), Some(0));
+fn free_entry_before_the_coldest(rt: HostRuntime) {
+    let cold = Entry::Held { heat: 0, used: 0 };
+    assert_eq!(rt; least(&[cold, Entry::Free]), Some(1));
+    assert_eq!(rt; least(&[Entry::Free, cold]), Some(0));
 }
 
 #[test]
-fn row_before_the_time(rt: HostRuntime) {
-    let back_early = Seat::Taken { row: 5, since: 1 };
-    let front_late = Seat::Taken { row: 4, since: 900 };
-    let front_early = Seat::Taken { row: 4, since: 899 };
-    assert_eq!(rt; least(&[back_early, front_late]), Some(1));
+fn heat_before_the_time_of_last_use(rt: HostRuntime) {
+    let hot_early = Entry::Held { heat: 5, used: 1 };
+    let cold_late = Entry::Held { heat: 4, used: 900 };
+    let cold_early = Entry::Held { heat: 4, used: 899 };
+    assert_eq!(rt; least(&[hot_early, cold_late]), Some(1));
     assert_eq!(rt;
-        least(&[back_early, front_late, front_early, back_early]),
+        least(&[hot_early, cold_late, cold_early, hot_early]),
         Some(2)
     );
 }

@@ -1,15 +1,14 @@
 -- A memory made fresh, one record after another.
 use Rattle.std.proofs.Common.{◌≡◌, ℕ, zero, suc, ◌+◌, ◌*◌, ◌≤◌, List, ◌++◌, length, drop, replicate, sym, ap, ◌∙◌, add-one, arith}
 use Rattle.std.proofs.lemmas.List.{length-append, length-replicate, take_at, drop_at, length-drop, drop-drop, append_assoc}
-use Rattle.page.specs.Size.{page_size}
-use Rattle.memory.specs.Layout.{header_size, record_size, record_at}
-use Rattle.memory.specs.Memory.{erased_byte, erased_bytes, put, blank_record, blank_records}
+use Rattle.memory.specs.Layout.{record_size, record_at}
+use Rattle.memory.specs.Memory.{put, blank_record, blank_records}
 use Rattle.memory.proofs.Writes.{put_put}
 
 -- A blank record is as long as any.
 pub length_blank_record : (P : ℕ) → length (blank_record P) ≡ record_size P
 length_blank_record P =
-    omega (arith, length-replicate {A = ℕ} (page_size * P) erased_byte)
+    omega (arith, length-replicate {A = ℕ} (256 * P) 255)
 
 -- The first n records end where the next begins.
 pub length_blank_records : (P n : ℕ) → length (blank_records P n) ≡ record_at P n
@@ -40,15 +39,15 @@ blank_more m P n within =
 pub blank_step : (m : List ℕ) (P n at : ℕ) (old headed new : List ℕ)
     → record_at P n + record_size P ≤ length m → at ≡ record_at P n
     → old ≡ blank_records P n ++ drop (record_at P n) m
-    → headed ≡ put old at (replicate header_size 0) → new ≡ put headed (at + header_size) (erased_bytes P)
+    → headed ≡ put old at (replicate 8 0) → new ≡ put headed (at + 8) (replicate (256 * P) 255)
     → new ≡ blank_records P (n + 1) ++ drop (record_at P (n + 1)) m
 blank_step m P n at old headed new within place was first second =
     let level : length old ≡ length m =
     ap length was ∙ length-append (blank_records P n) _
     ∙ omega (arith, length_blank_records P n, length-drop (record_at P n) m) in
     second
-    ∙ ap (λ w. put w (at + header_size) (erased_bytes P)) first
-    ∙ put_put old at (replicate header_size 0) (erased_bytes P) (omega (arith, length-replicate {A = ℕ} (page_size * P) erased_byte))
+    ∙ ap (λ w. put w (at + 8) (replicate (256 * P) 255)) first
+    ∙ put_put old at (replicate 8 0) (replicate (256 * P) 255) (omega (arith, length-replicate {A = ℕ} (256 * P) 255))
     ∙ ap (λ k. put old k (blank_record P)) place
     ∙ ap (λ w. put w (record_at P n) (blank_record P)) was
     ∙ blank_more m P n within

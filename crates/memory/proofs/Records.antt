@@ -3,12 +3,10 @@ use Rattle.std.proofs.Common.{◌≡◌, ℕ, ◌+◌, ◌/◌, ◌<◌, ◌≤�
 use Rattle.std.specs.List.{range_with_len}
 use Rattle.std.proofs.lemmas.Nat.{mul-le, div-add-mod'}
 use Rattle.std.proofs.lemmas.Bool.{cases_order}
-use Rattle.page.specs.Same.{SameBetween}
-use Rattle.page.specs.Size.{page_size}
 use Rattle.flash.specs.Part.{Block}
 use Rattle.memory.specs.Layout.{record_size, record_count, record_at, page_at, written_in, stored_erases, page_in}
 use Rattle.memory.specs.Memory.{put, block_in}
-use Rattle.memory.proofs.Writes.{put_before, put_after, same_within, same_between, same_number16, same_number32}
+use Rattle.memory.proofs.Writes.{Same, put_before, put_after, same_within, same_between, same_number16, same_number32}
 use Rattle.memory.proofs.Counts.{counted_same}
 
 -- A record that counts lies in the memory.
@@ -24,7 +22,7 @@ record_apart P b c h = omega (arith, mul-le (b + 1) P c P (omega arith) (omega a
 
 -- Two memories agree on the record of block b.
 abbrev pub SameRecord : List ℕ → List ℕ → ℕ → ℕ → Type 0
-SameRecord m m' P b = SameBetween m m' (record_at P b) (record_at P b + record_size P)
+SameRecord m m' P b = Same m m' (record_at P b) (record_at P b + record_size P)
 
 -- A write to the record of block b leaves that of block c.
 pub put_elsewhere : (m : List ℕ) (P b c i : ℕ) (xs : List ℕ)
@@ -46,8 +44,8 @@ block_by p q e f same_pages same_erases =
 
 module _ (m m' : List ℕ) (P b : ℕ) (level : length m ≡ length m') (inside : record_at P b + record_size P ≤ length m) where
   -- Of a page on which two memories agree they give the same bytes.
-  pub same_page : (k : ℕ) → k < P → SameBetween m m' (page_at P b k) (page_at P b k + page_size) → page_in m P b k ≡ page_in m' P b k
-  same_page k h same = same_between m m' level (page_at P b k) page_size (omega arith) same
+  pub same_page : (k : ℕ) → k < P → Same m m' (page_at P b k) (page_at P b k + 256) → page_in m P b k ≡ page_in m' P b k
+  same_page k h same = same_between m m' level (page_at P b k) 256 (omega arith) same
 
   -- Where they agree on a record, they hold the same block.
   pub same_block : (W : ℕ) → SameRecord m m' P b → block_in m P W b ≡ block_in m' P W b

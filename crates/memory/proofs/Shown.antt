@@ -3,13 +3,10 @@ use Rattle.std.proofs.Common.{◌≡◌, ℕ, ◌+◌, ◌*◌, ◌/◌, ◌<◌
 use Rattle.std.specs.List.{range_with_len}
 use Rattle.std.proofs.lemmas.List.FromFn.{length-map-range_with_len, get_or-map-range_with_len, map-range_with_len_more}
 use Rattle.std.proofs.lemmas.List.{length-take, length-drop, length-replicate, get_or_past}
-use Rattle.page.specs.Same.{SameBetween}
-use Rattle.page.specs.Size.{page_size}
-use Rattle.flash.specs.Limits.{most_blocks, most_per_block, most_endurance}
-use Rattle.flash.specs.Part.{Block, Sound, SoundBlock, no_block, block, written, erases, page_bytes, with_block, appended, erased}
+use Rattle.flash.specs.Part.{Block, Sound, SoundBlock, no_block, block, written, erases, content, with_block, appended, erased}
 use Rattle.memory.specs.Layout.{pages_of, endurance_of, record_size, record_count, record_at, page_at, written_in, stored_erases, page_in, bytes16, bytes32}
-use Rattle.memory.specs.Memory.{block_in, memory_of, erased_byte, erased_bytes, put, page_programmed, wiped}
-use Rattle.memory.proofs.Writes.{length_put, between_put, put_before, put_after, same_trans, same_number16, same_number32, number16_put, number32_put}
+use Rattle.memory.specs.Memory.{block_in, memory_of, put, programmed, wiped}
+use Rattle.memory.proofs.Writes.{Same, length_put, between_put, put_before, put_after, same_trans, same_number16, same_number32, number16_put, number32_put}
 use Rattle.memory.proofs.Counts.{counted_same, counted_set}
 use Rattle.memory.proofs.Records.{SameRecord, record_inside, put_elsewhere, same_page, same_block, block_by}
 
@@ -41,10 +38,10 @@ module _ (m : List ℕ) (pages endurance b : ℕ) (h : b < record_count m (pages
       ap (λ (x : Block). length x.pages) (shown_block m pages endurance b h)
       ∙ length-map-range_with_len _ 0 (written_in m (pages_of pages) b)
 
-  -- Each stands in its place.
-  pub shown_bytes : (k : ℕ) → k < written (memory_of m pages endurance) b
-      → page_bytes (memory_of m pages endurance) b k ≡ page_in m (pages_of pages) b k
-  shown_bytes k l =
+  -- .. each in its place.
+  pub shown_content : (k : ℕ) → k < written (memory_of m pages endurance) b
+      → content (memory_of m pages endurance) b k ≡ page_in m (pages_of pages) b k
+  shown_content k l =
       ap (λ (x : Block). get_or x.pages k []) (shown_block m pages endurance b h)
       ∙ get_or-map-range_with_len _ 0 (written_in m (pages_of pages) b) k k [] (omega (arith, shown_written)) (omega arith)
 
@@ -60,14 +57,13 @@ pub shown_put : (m m' : List ℕ) (pages endurance b : ℕ) (new : Block)
     → memory_of m' pages endurance ≡ with_block (memory_of m pages endurance) b new
 shown_put m m' pages endurance b new level h here elsewhere =
     let P = pages_of pages in let W = endurance_of endurance in
-    ap (λ n. record { blocks = map (block_in m' P W) (range_with_len 0 (min (n / record_size P) most_blocks)); per_block = P; endurance = W }) level
+    ap (λ n. record { blocks = map (block_in m' P W) (range_with_len 0 (min (n / record_size P) 255)); per_block = P; endurance = W }) level
     ∙ ap (λ (xs : List Block). record { blocks = xs; per_block = P; endurance = W })
     (counted_set no_block (block_in m' P W) (block_in m P W) (record_count m P) b new h here
     (λ c l ne. same_block m' m P c level (omega (arith, record_inside m P c l)) W (elsewhere c ne)))
 
 -- Page k of block b is programmed with x: first the page is written, then the count.
-module _ (m : List ℕ) (P b k : ℕ) (x : List ℕ) (h : b < record_count m P) (next : k < P) (full : length x ≡ page_size) where
-  -- The memory with the page in its place.
+module _ (m : List ℕ) (P b k : ℕ) (x : List ℕ) (h : b < record_count m P) (next : k < P) (full : length x ≡ 256) where
   abbrev paged : List ℕ
   paged = put m (page_at P b k) x
 
@@ -79,38 +75,34 @@ module _ (m : List ℕ) (P b k : ℕ) (x : List ℕ) (h : b < record_count m P) 
   count_within : record_at P b + 2 ≤ length paged
   count_within = omega (arith, record_inside m P b h, length_put m (page_at P b k) x page_within)
 
-  -- The memory stays as long.
-  pub programmed_length : length (page_programmed m P b k x) ≡ length m
+  pub programmed_length : length (programmed m P b k x) ≡ length m
   programmed_length = length_put paged (record_at P b) (bytes16 (k + 1)) count_within ∙ length_put m (page_at P b k) x page_within
 
-  -- Every other record stays.
-  pub programmed_elsewhere : (c : ℕ) → (c ≡ b → ⊥) → SameRecord (page_programmed m P b k x) m P c
+  pub programmed_elsewhere : (c : ℕ) → (c ≡ b → ⊥) → SameRecord (programmed m P b k x) m P c
   programmed_elsewhere c ne =
-      same_trans (page_programmed m P b k x) paged m _ _
+      same_trans (programmed m P b k x) paged m _ _
       (put_elsewhere paged P b c (record_at P b) (bytes16 (k + 1)) count_within (omega arith) (omega arith) ne)
       (put_elsewhere m P b c (page_at P b k) x page_within (omega arith) (omega arith) ne)
 
   -- What lies between the count and the page stays.
-  programmed_between : (from to : ℕ) → record_at P b + 2 ≤ from → to ≤ page_at P b k → SameBetween (page_programmed m P b k x) m from to
+  programmed_between : (from to : ℕ) → record_at P b + 2 ≤ from → to ≤ page_at P b k → Same (programmed m P b k x) m from to
   programmed_between from to low high =
-      same_trans (page_programmed m P b k x) paged m from to
+      same_trans (programmed m P b k x) paged m from to
       (put_after paged (record_at P b) (bytes16 (k + 1)) count_within from low to)
       (put_before m (page_at P b k) x page_within to high from)
 
-  -- The page has the bytes.
-  programmed_page : page_in (page_programmed m P b k x) P b k ≡ x
+  programmed_page : page_in (programmed m P b k x) P b k ≡ x
   programmed_page =
-      same_page (page_programmed m P b k x) paged P b (length_put paged (record_at P b) (bytes16 (k + 1)) count_within)
+      same_page (programmed m P b k x) paged P b (length_put paged (record_at P b) (bytes16 (k + 1)) count_within)
       (omega (arith, record_inside m P b h, programmed_length)) k next
       (put_after paged (record_at P b) (bytes16 (k + 1)) count_within _ (omega arith) _)
       ∙ ap (λ n. take n (drop (page_at P b k) paged)) (sym full) ∙ between_put m (page_at P b k) x page_within
 
-  -- The block has a page more.
-  pub programmed_block : (W : ℕ) → P ≤ most_per_block → written_in m P b ≡ k
-      → block_in (page_programmed m P b k x) P W b
+  pub programmed_block : (W : ℕ) → P ≤ 64 → written_in m P b ≡ k
+      → block_in (programmed m P b k x) P W b
       ≡ record { pages = (block_in m P W b).pages ++ x ∷ []; erases = (block_in m P W b).erases }
   programmed_block W most was =
-      let m' = page_programmed m P b k x in
+      let m' = programmed m P b k x in
       let count : written_in m' P b ≡ k + 1 =
       omega (arith, number16_put paged (record_at P b) (k + 1) count_within (omega arith)) in
       block_by _ _ _ _
@@ -128,19 +120,18 @@ module _ (m : List ℕ) (P b k : ℕ) (x : List ℕ) (h : b < record_count m P) 
 module _ (m : List ℕ) (P b : ℕ) (h : b < record_count m P) where
   -- The memory with the pages erased.
   abbrev blanked : List ℕ
-  blanked = put m (page_at P b 0) (erased_bytes P)
+  blanked = put m (page_at P b 0) (replicate (256 * P) 255)
 
   -- The memory with the written count at 0 too.
   abbrev unwritten : List ℕ
   unwritten = put blanked (record_at P b) (bytes16 0)
 
-  -- The pages lie in the memory.
-  pages_within : page_at P b 0 + length (replicate {A = ℕ} (page_size * P) erased_byte) ≤ length m
-  pages_within = omega (arith, record_inside m P b h, length-replicate {A = ℕ} (page_size * P) erased_byte)
+  pages_within : page_at P b 0 + length (replicate {A = ℕ} (256 * P) 255) ≤ length m
+  pages_within = omega (arith, record_inside m P b h, length-replicate {A = ℕ} (256 * P) 255)
 
   -- It is as long with the pages erased.
   blanked_length : length blanked ≡ length m
-  blanked_length = length_put m (page_at P b 0) (erased_bytes P) pages_within
+  blanked_length = length_put m (page_at P b 0) (replicate (256 * P) 255) pages_within
 
   -- The written count lies in it.
   written_within : record_at P b + 2 ≤ length blanked
@@ -165,11 +156,10 @@ module _ (m : List ℕ) (P b : ℕ) (h : b < record_count m P) where
       (put_elsewhere unwritten P b c (record_at P b + 4) (bytes32 (stored_erases m P b + 1)) erases_within (omega arith) (omega arith) ne)
       (same_trans unwritten blanked m _ _
       (put_elsewhere blanked P b c (record_at P b) (bytes16 0) written_within (omega arith) (omega arith) ne)
-      (put_elsewhere m P b c (page_at P b 0) (erased_bytes P) pages_within (omega arith)
-      (omega (arith, length-replicate {A = ℕ} (page_size * P) erased_byte)) ne))
+      (put_elsewhere m P b c (page_at P b 0) (replicate (256 * P) 255) pages_within (omega arith)
+      (omega (arith, length-replicate {A = ℕ} (256 * P) 255)) ne))
 
-  -- The block has no page, and one erase more.
-  pub wiped_block : (W : ℕ) → W ≤ most_endurance → min (stored_erases m P b) W < W
+  pub wiped_block : (W : ℕ) → W ≤ 1000000 → min (stored_erases m P b) W < W
       → block_in (wiped m P b) P W b ≡ record { pages = []; erases = (block_in m P W b).erases + 1 }
   wiped_block W most left =
       let m' = wiped m P b in
@@ -183,11 +173,11 @@ module _ (m : List ℕ) (P b : ℕ) (h : b < record_count m P) where
 
 module _ (m : List ℕ) (pages endurance b : ℕ) (h : b < record_count m (pages_of pages)) where
   -- A program of the next page appends it.
-  pub shown_appended : (k : ℕ) (x : List ℕ) → k < pages_of pages → length x ≡ page_size → written_in m (pages_of pages) b ≡ k
-      → memory_of (page_programmed m (pages_of pages) b k x) pages endurance ≡ appended (memory_of m pages endurance) b x
+  pub shown_appended : (k : ℕ) (x : List ℕ) → k < pages_of pages → length x ≡ 256 → written_in m (pages_of pages) b ≡ k
+      → memory_of (programmed m (pages_of pages) b k x) pages endurance ≡ appended (memory_of m pages endurance) b x
   shown_appended k x next full was =
       let P = pages_of pages in let W = endurance_of endurance in
-      shown_put m (page_programmed m P b k x) pages endurance b _
+      shown_put m (programmed m P b k x) pages endurance b _
       (programmed_length m P b k x h next full) h
       (programmed_block m P b k x h next full W (omega arith) was
       ∙ ap (λ (y : Block). record { pages = y.pages ++ x ∷ []; erases = y.erases }) (sym (shown_block m pages endurance b h)))
@@ -217,7 +207,7 @@ shown_sound m pages endurance =
             whole = λ k j.
                 let r : k < written_in m P b = omega (arith, length-map-range_with_len (page_in m P b) 0 (written_in m P b)) in
                 ap length (get_or-map-range_with_len (page_in m P b) 0 (written_in m P b) k k [] r (omega arith))
-                ∙ length-take page_size (drop (page_at P b k) m)
+                ∙ length-take 256 (drop (page_at P b k) m)
                 ∙ omega (arith, length-drop (page_at P b k) m, record_inside m P b h);
           });
       limit = omega arith;

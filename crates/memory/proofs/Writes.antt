@@ -3,9 +3,12 @@ use Rattle.std.proofs.Common.{◌≡◌, ℕ, ◌+◌, ◌-◌, ◌*◌, ◌/◌
 use native.Mathlib.Nat.{div-div-eq-div-mul}
 use Rattle.std.proofs.lemmas.List.{length-append, length-take, length-take-le, length-drop, get_or_append_left, get_or-append_right, get_or-take, get_or-drop, take_at, drop_at, drop-drop, append_assoc, ext_get_or}
 use Rattle.std.proofs.lemmas.Nat.{div-add-mod', div_below}
-use Rattle.page.specs.Same.{SameBetween}
 use Rattle.memory.specs.Layout.{number16, number32, bytes16, bytes32}
 use Rattle.memory.specs.Memory.{put}
+
+-- Two memories agree from one place up to another.
+abbrev pub Same : List ℕ → List ℕ → ℕ → ℕ → Type 0
+Same m m' from to = (j : ℕ) → from ≤ j → j < to → get_or m j 0 ≡ get_or m' j 0
 
 module _ (m : List ℕ) (i : ℕ) (xs : List ℕ) (within : i + length xs ≤ length m) where
   -- The memory stays as long.
@@ -27,12 +30,11 @@ module _ (m : List ℕ) (i : ℕ) (xs : List ℕ) (within : i + length xs ≤ le
   pub between_put : take (length xs) (drop i (put m i xs)) ≡ xs
   between_put = ap (take (length xs)) (drop_at (take i m) _ i front) ∙ take_at xs _ (length xs) refl
 
-  -- Every byte before them is as it was.
-  pub put_before : (to : ℕ) → to ≤ i → (from : ℕ) → SameBetween (put m i xs) m from to
+  -- .. and every byte before and after them is as it was.
+  pub put_before : (to : ℕ) → to ≤ i → (from : ℕ) → Same (put m i xs) m from to
   put_before to le from j f t = get_or_append_left (take i m) _ 0 j (omega (arith, front)) ∙ get_or-take i m j 0 (omega arith)
 
-  -- Every byte after them is as it was.
-  pub put_after : (from : ℕ) → i + length xs ≤ from → (to : ℕ) → SameBetween (put m i xs) m from to
+  pub put_after : (from : ℕ) → i + length xs ≤ from → (to : ℕ) → Same (put m i xs) m from to
   put_after from le to j f t =
       get_or-append_right (take i m) _ i j 0 front (omega arith)
       ∙ get_or-append_right xs _ (length xs) (j - i) 0 refl (omega arith)
@@ -55,31 +57,27 @@ put_put m i xs ys within =
     ∙ append_assoc (take i m) xs _
     ∙ ap (λ w. take i m ++ w) (sym (append_assoc xs ys _))
 
--- Agreement goes on to a third memory.
-pub same_trans : (a b c : List ℕ) (from to : ℕ) → SameBetween a b from to → SameBetween b c from to → SameBetween a c from to
+-- Agreement goes on to a third memory, and to a part of the places.
+pub same_trans : (a b c : List ℕ) (from to : ℕ) → Same a b from to → Same b c from to → Same a c from to
 same_trans a b c from to p q j f t = p j f t ∙ q j f t
 
--- Agreement goes on to a part of the places.
-pub same_within : (a b : List ℕ) (from to from' to' : ℕ) → from ≤ from' → to' ≤ to → SameBetween a b from to → SameBetween a b from' to'
+pub same_within : (a b : List ℕ) (from to from' to' : ℕ) → from ≤ from' → to' ≤ to → Same a b from to → Same a b from' to'
 same_within a b from to from' to' f t p j f' t' = p j (omega arith) (omega arith)
 
 -- What is read from places where two memories agree is the same.
 module _ (a b : List ℕ) (level : length a ≡ length b) (i : ℕ) where
-  -- The bytes read are the same.
-  pub same_between : (n : ℕ) → i + n ≤ length a → SameBetween a b i (i + n) → take n (drop i a) ≡ take n (drop i b)
+  pub same_between : (n : ℕ) → i + n ≤ length a → Same a b i (i + n) → take n (drop i a) ≡ take n (drop i b)
   same_between n within same =
       ext_get_or 0 _ _ (simp (length-take, length-drop) (omega arith))
       (λ j h. let l : j < n = omega (arith, length-take n (drop i a)) in
       get_or-take n (drop i a) j 0 l ∙ get_or-drop i a j 0 ∙ same (i + j) (omega arith) (omega arith)
       ∙ sym (get_or-drop i b j 0) ∙ sym (get_or-take n (drop i b) j 0 l))
 
--- A number in two bytes is the same.
-pub same_number16 : (a b : List ℕ) (i : ℕ) → SameBetween a b i (i + 2) → number16 a i ≡ number16 b i
+pub same_number16 : (a b : List ℕ) (i : ℕ) → Same a b i (i + 2) → number16 a i ≡ number16 b i
 same_number16 a b i same =
     let p = same i (omega arith) (omega arith) in let q = same (i + 1) (omega arith) (omega arith) in cc
 
--- A number in four bytes is the same.
-pub same_number32 : (a b : List ℕ) (i : ℕ) → SameBetween a b i (i + 4) → number32 a i ≡ number32 b i
+pub same_number32 : (a b : List ℕ) (i : ℕ) → Same a b i (i + 4) → number32 a i ≡ number32 b i
 same_number32 a b i same =
     let p = same i (omega arith) (omega arith) in let q = same (i + 1) (omega arith) (omega arith) in
     let r = same (i + 2) (omega arith) (omega arith) in let s = same (i + 3) (omega arith) (omega arith) in cc

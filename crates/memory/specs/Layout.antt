@@ -1,27 +1,21 @@
 -- How the blocks of a part lie in a memory: one record after another, each the block's two counts and then its pages.
 use Rattle.std.specs.Prelude.{ℕ, ◌+◌, ◌*◌, ◌/◌, ◌%◌, min, max, List, [], ◌∷◌, length, take, drop, slice_index}
-use Rattle.page.specs.Size.{page_size}
-use Rattle.flash.specs.Limits.{most_blocks, most_per_block, most_endurance}
 
--- The pages of a block, by the number asked for: at least 1, and no more than the limit.
+-- The pages of a block, by the number asked for: at least 1, at most 64.
 abbrev pub pages_of : ℕ → ℕ
-pages_of given = min (max given 1) most_per_block
+pages_of given = min (max given 1) 64
 
--- The erases that a block endures, by the number asked for: no more than the limit.
+-- The erases that a block endures, by the number asked for: at most a million.
 abbrev pub endurance_of : ℕ → ℕ
-endurance_of given = min given most_endurance
+endurance_of given = min given 1000000
 
--- The bytes before the pages of a record: its counts, and two spare bytes between them.
-abbrev pub header_size : ℕ
-header_size = 8
-
--- The bytes of a block with P pages: those before its pages, and the pages.
+-- The bytes of a block with P pages: 8 for its counts, and 256 for each page.
 abbrev pub record_size : ℕ → ℕ
-record_size P = header_size + page_size * P
+record_size P = 8 + 256 * P
 
--- How many blocks lie in a memory: as many whole records as it has, and no more than the limit.
+-- How many blocks lie in a memory: as many whole records as it has, at most 255.
 abbrev pub record_count : List ℕ → ℕ → ℕ
-record_count m P = min (length m / record_size P) most_blocks
+record_count m P = min (length m / record_size P) 255
 
 -- Where the record of block b begins.
 abbrev pub record_at : ℕ → ℕ → ℕ
@@ -29,7 +23,7 @@ record_at P b = b * record_size P
 
 -- Where page k of block b begins.
 abbrev pub page_at : ℕ → ℕ → ℕ → ℕ
-page_at P b k = record_at P b + (header_size + page_size * k)
+page_at P b k = record_at P b + (8 + 256 * k)
 
 -- The number in two bytes from i on, the lowest byte first.
 abbrev pub number16 : List ℕ → ℕ → ℕ
@@ -57,4 +51,4 @@ stored_erases m P b = number32 m (record_at P b + 4)
 
 -- The bytes of page k of block b.
 abbrev pub page_in : List ℕ → ℕ → ℕ → ℕ → List ℕ
-page_in m P b k = take page_size (drop (page_at P b k) m)
+page_in m P b k = take 256 (drop (page_at P b k) m)

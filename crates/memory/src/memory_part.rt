@@ -1,13 +1,12 @@
 // A part in memory that the caller lends and gets back.
 ghost use Rattle.std.specs.Prelude.{◌≡◌};
-ghost use Rattle.flash.specs.Part.{page_bytes};
-ghost use Rattle.flash.specs.Answers.{program_answer, read_answer, erase_answer, if_accepted, after_program, after_erase};
+ghost use Rattle.flash.specs.Part.{content, appended, erased};
+ghost use Rattle.flash.specs.Answers.{program_answer, read_answer, erase_answer, either};
 ghost use Rattle.memory.specs.Layout.{pages_of, endurance_of, record_count};
-ghost use Rattle.memory.specs.Memory.{shown_by, memory_after_program, memory_after_erase, made_fresh, clean_part};
+ghost use Rattle.memory.specs.Memory.{shown_by, programmed, wiped, formatted, clean_part};
 
 use crate::layout;
-use flash::{Flash, PartRefusal};
-use page::PAGE_SIZE;
+use flash::{Flash, Refusal};
 
 // Holds the numbers that it was asked for; what is out of their limits is cut where it is read.
 #[derive(Drop)]
@@ -20,12 +19,12 @@ pub struct MemoryPart<'a> {
 impl<'a> MemoryPart<'a> {
     // Makes the memory a part with no page written and no block erased.
     pub fn fresh(bytes: &'a mut [u8], pages: usize, endurance: u32) -> Self
-        ensures bytes { result.bytes.now ≡ made_fresh bytes.old (pages_of pages) }
+        ensures bytes { result.bytes.now ≡ formatted bytes.old (pages_of pages) }
         ensures pages { result.pages ≡ pages }
         ensures endurance { result.endurance ≡ endurance }
         ensures clean { shown_by result ≡ clean_part (record_count bytes.old (pages_of pages)) (pages_of pages) (endurance_of endurance) }
     {
-        layout::make_fresh(bytes, layout::pages_of(pages));
+        layout::format(bytes, layout::pages_of(pages));
         Self::attach(bytes, pages, endurance)
     }
 
@@ -54,22 +53,17 @@ impl<'a> MemoryPart<'a> {
         bytes
     }
 
-    // Copies a page; the memory is only looked at.
-    fn copy_page(
-        &self,
-        block: usize,
-        page: usize,
-        buffer: &mut [u8; PAGE_SIZE],
-    ) -> Result<(), PartRefusal>
+    // Reads a page; the memory is only looked at.
+    fn load(&self, block: usize, page: usize, buffer: &mut [u8; 256]) -> Result<(), Refusal>
         ensures answer { result ≡ read_answer (shown_by self.now) block page }
-        ensures buffer { buffer.new ≡ if_accepted result (page_bytes (shown_by self.now) block page) buffer.old }
+        ensures buffer { buffer.new ≡ either result (content (shown_by self.now) block page) buffer.old }
     {
         let pages = self.pages_per_block();
         if block >= self.blocks() || page >= pages {
-            return Err(PartRefusal::NoSuchPage);
+            return Err(Refusal::NoSuchPage);
         }
         if page >= self.written(block) {
-            return Err(PartRefusal::Unwritten);
+            return Err(Refusal::Unwritten);
         }
         layout::read_page(self.bytes, pages, block, page, buffer);
         Ok(())
@@ -107,58 +101,48 @@ impl<'a> Flash for MemoryPart<'a> {
         }
     }
 
-    fn program(
-        &mut self,
-        block: usize,
-        page: usize,
-        bytes: &[u8; PAGE_SIZE],
-    ) -> Result<(), PartRefusal>
+    fn program(&mut self, block: usize, page: usize, bytes: &[u8; 256]) -> Result<(), Refusal>
         ensures answer { result ≡ program_answer (shown_by self.old) block page }
-        ensures after { shown_by self.new ≡ after_program result (shown_by self.old) block bytes.now }
-        ensures memory { self.new.bytes.now ≡ memory_after_program result self.old block page bytes.now }
+        ensures after { shown_by self.new ≡ either result (appended (shown_by self.old) block bytes.now) (shown_by self.old) }
+        ensures memory { self.new.bytes.now ≡ either result (programmed self.old.bytes.now (pages_of self.old.pages) block page bytes.now) self.old.bytes.now }
         ensures pages { self.new.pages ≡ self.old.pages }
         ensures endurance { self.new.endurance ≡ self.old.endurance }
     {
         let pages = self.pages_per_block();
         if block >= self.blocks() || page >= pages {
-            return Err(PartRefusal::NoSuchPage);
+            return Err(Refusal::NoSuchPage);
         }
         if page != self.written(block) {
-            return Err(PartRefusal::NotNextPage);
+            return Err(Refusal::NotNext);
         }
         layout::write_page(self.bytes, pages, block, page, bytes);
         Ok(())
     }
 
-    fn read(
-        &mut self,
-        block: usize,
-        page: usize,
-        buffer: &mut [u8; PAGE_SIZE],
-    ) -> Result<(), PartRefusal>
+    fn read(&mut self, block: usize, page: usize, buffer: &mut [u8; 256]) -> Result<(), Refusal>
         ensures answer { result ≡ read_answer (shown_by self.old) block page }
-        ensures buffer { buffer.new ≡ if_accepted result (page_bytes (shown_by self.old) block page) buffer.old }
+        ensures buffer { buffer.new ≡ either result (content (shown_by self.old) block page) buffer.old }
         ensures after { shown_by self.new ≡ shown_by self.old }
         ensures memory { self.new.bytes.now ≡ self.old.bytes.now }
         ensures pages { self.new.pages ≡ self.old.pages }
         ensures endurance { self.new.endurance ≡ self.old.endurance }
     {
-        self.copy_page(block, page, buffer)
+        self.load(block, page, buffer)
     }
 
-    fn erase(&mut self, block: usize) -> Result<(), PartRefusal>
+    fn erase(&mut self, block: usize) -> Result<(), Refusal>
         ensures answer { result ≡ erase_answer (shown_by self.old) block }
-        ensures after { shown_by self.new ≡ after_erase result (shown_by self.old) block }
-        ensures memory { self.new.bytes.now ≡ memory_after_erase result self.old block }
+        ensures after { shown_by self.new ≡ either result (erased (shown_by self.old) block) (shown_by self.old) }
+        ensures memory { self.new.bytes.now ≡ either result (wiped self.old.bytes.now (pages_of self.old.pages) block) self.old.bytes.now }
         ensures pages { self.new.pages ≡ self.old.pages }
         ensures endurance { self.new.endurance ≡ self.old.endurance }
     {
         let pages = self.pages_per_block();
         if block >= self.blocks() {
-            return Err(PartRefusal::NoSuchPage);
+            return Err(Refusal::NoSuchPage);
         }
         if self.erases(block) >= self.endurance() {
-            return Err(PartRefusal::EnduranceReached);
+            return Err(Refusal::WornOut);
         }
         layout::wipe(self.bytes, pages, block);
         Ok(())

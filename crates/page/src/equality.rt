@@ -1,19 +1,17 @@
 ghost use Rattle.std.specs.Prelude.{◌≡◌, true, false, ◌≢◌};
 ghost use Rattle.page.specs.Same.{same_bytes};
 
-use crate::size::PAGE_SIZE;
-
 // The bytes that a turn compares, with no branch between them.
 const STRIDE: usize = 8;
 
-// Whether two pages hold the same bytes, each at the same place. It stops at the first turn that finds a difference.
-pub fn equal(a: &[u8; PAGE_SIZE], b: &[u8; PAGE_SIZE]) -> bool
+// Whether two pages hold the same 256 bytes, each byte at the same place. It stops at the first turn that finds a difference.
+pub fn equal(a: &[u8; 256], b: &[u8; 256]) -> bool
     ensures value { result ≡ same_bytes a.now b.now }
     ensures same { result ≡ true → a.now ≡ b.now }
     ensures different { result ≡ false → a.now ≢ b.now }
 {
     let mut i = 0;
-    while i < PAGE_SIZE {
+    while i < 256 {
         let first = (a[i] == b[i]) & (a[i + 1] == b[i + 1]);
         let second = (a[i + 2] == b[i + 2]) & (a[i + 3] == b[i + 3]);
         let third = (a[i + 4] == b[i + 4]) & (a[i + 5] == b[i + 5]);

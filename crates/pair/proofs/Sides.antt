@@ -3,39 +3,34 @@ use Rattle.std.proofs.Common.{◌≡◌, ℕ, ◌-◌, ◌<◌, ◌≤◌, true,
 use lib.Seq.{take-set-lt}
 use Rattle.std.proofs.lemmas.List.{length-take, length-map, length-append, get_or-take, get_or-map, get_or_append_left, get_or-append-add, set-append_left, set-append_right, map-set, get_or_past}
 use Rattle.std.proofs.lemmas.Bool.{cases_Bool, cases_lt, eqb-true, cond-true, cond-false}
-use Rattle.flash.specs.Limits.{most_blocks}
 use Rattle.flash.specs.Part.{Block, Part, SoundBlock, Sound, no_block, block, with_block}
 use Rattle.pair.specs.declared.place.Place.TheVariants.{First, Second}
-use Rattle.pair.specs.Shown.{lowered, counted, lesser, pair_of, shown_count, Located}
+use Rattle.pair.specs.Shown.{lowered, counted, lesser, pair_of, shown_count, Stands}
 use Rattle.pair.proofs.Seen.{Seen}
 
 -- How many blocks it shows.
 pub pair_count : (p q : Part) → length (pair_of p q).blocks ≡ shown_count p q
 pair_count p q = simp (length-take, length-map, length-append) (omega arith)
 
--- The first blocks of a list, as many as a part has at most, each lowered.
-module _ (w : ℕ) (xs : List Block) (b : ℕ) (few : b < most_blocks) where
-  -- Block b of them is block b of the list, lowered.
-  lowered_at : b < length xs → get_or (take most_blocks (map (lowered w) xs)) b no_block ≡ lowered w (get_or xs b no_block)
+-- The blocks of the first 255 of a list, each lowered.
+module _ (w : ℕ) (xs : List Block) (b : ℕ) (few : b < 255) where
+  lowered_at : b < length xs → get_or (take 255 (map (lowered w) xs)) b no_block ≡ lowered w (get_or xs b no_block)
   lowered_at l =
-      get_or-take most_blocks (map (lowered w) xs) b no_block few ∙ get_or-map (lowered w) xs b no_block no_block l
+      get_or-take 255 (map (lowered w) xs) b no_block few ∙ get_or-map (lowered w) xs b no_block no_block l
 
-  -- A block put in the list is seen among them, lowered.
-  lowered_set : (new : Block) → take most_blocks (map (lowered w) (set xs b new)) ≡ set (take most_blocks (map (lowered w) xs)) b (lowered w new)
+  lowered_set : (new : Block) → take 255 (map (lowered w) (set xs b new)) ≡ set (take 255 (map (lowered w) xs)) b (lowered w new)
   lowered_set new =
-      ap (take most_blocks) (map-set (lowered w) xs b new) ∙ take-set-lt most_blocks (map (lowered w) xs) b (lowered w new) few
+      ap (take 255) (map-set (lowered w) xs b new) ∙ take-set-lt 255 (map (lowered w) xs) b (lowered w new) few
 
--- The pair of p and q with the first of these blocks.
+-- The pair of p and q with the first 255 of these blocks.
 abbrev among : Part → Part → List Block → Part
-among p q xs = record { blocks = take most_blocks (map (lowered (lesser p q)) xs); per_block = p.per_block; endurance = lesser p q }
+among p q xs = record { blocks = take 255 (map (lowered (lesser p q)) xs); per_block = p.per_block; endurance = lesser p q }
 
 -- Block b of the pair is block c of the first part.
-module _ (p q : Part) (b c : ℕ) (st : Located p q b (First c)) where
-  -- It is one of the blocks of both.
+module _ (p q : Part) (b c : ℕ) (st : Stands p q b (First c)) where
   first_within : b < length (p.blocks ++ counted p q)
   first_within = simp length-append (omega arith)
 
-  -- The pair shows it.
   pub seen_first : Seen (λ y. pair_of y q) p b c
   seen_first = record {
     shown = omega (arith, pair_count p q);
@@ -57,35 +52,28 @@ counted_since p q c l = ⊎_elim (λ e. e)
     (cases_Bool (eqb p.per_block q.per_block))
 
 -- Block b of the pair is block c of the second part.
-module _ (p q : Part) (b c : ℕ) (st : Located p q b (Second c)) where
-  -- The parts have the same pages per block.
+module _ (p q : Part) (b c : ℕ) (st : Stands p q b (Second c)) where
   second_alike : eqb p.per_block q.per_block ≡ true
   second_alike = counted_since p q c st.1
 
-  -- So the blocks of the second part count.
   second_counted : (xs : List Block) → cond (eqb p.per_block q.per_block) xs [] ≡ xs
   second_counted xs = cond-true _ xs [] second_alike
 
-  -- It is one of the blocks of both.
   second_within : b < length (p.blocks ++ q.blocks)
   second_within = simp length-append (omega (arith, ap length (second_counted q.blocks)))
 
-  -- Among them it stands after those of the first part.
   second_at : get_or (p.blocks ++ q.blocks) b no_block ≡ block q c
   second_at = ap (λ i. get_or (p.blocks ++ q.blocks) i no_block) st.2 ∙ get_or-append-add p.blocks q.blocks c no_block
 
-  -- A block put in its place in the second part is put in its place among both.
   second_set : (new : Block) → p.blocks ++ set q.blocks c new ≡ set (p.blocks ++ q.blocks) b new
   second_set new =
       let is : c ≡ b - length p.blocks = omega arith in
       ap (λ i. p.blocks ++ set q.blocks i new) is
       ∙ sym (set-append_right p.blocks q.blocks (length p.blocks) b new refl (omega arith))
 
-  -- The pair with other blocks in its second part.
   second_all : (xs : List Block) → pair_of p (record { blocks = xs; per_block = q.per_block; endurance = q.endurance }) ≡ among p q (p.blocks ++ xs)
   second_all xs = ap (λ ys. among p q (p.blocks ++ ys)) (second_counted xs)
 
-  -- The pair shows it.
   pub seen_second : Seen (pair_of p) q b c
   seen_second = record {
     shown = omega (arith, pair_count p q);
@@ -113,7 +101,7 @@ lowered_sound per e w x s = record { room = s.room; worn_at_most = omega arith; 
 -- A pair of well-formed parts is well-formed.
 pub pair_sound : (p q : Part) → Sound p → Sound q → Sound (pair_of p q)
 pair_sound p q s t = record {
-  each = λ b h. let n = pair_count p q in let few : b < most_blocks = omega arith in ⊎_elim
+  each = λ b h. let n = pair_count p q in let few : b < 255 = omega arith in ⊎_elim
       (λ l. subst (SoundBlock p.per_block (lesser p q)) (sym (seen_first p q b b (few, l, refl)).same)
       (lowered_sound _ _ _ (block p b) (s.each b l)))
       (λ l. let c : ℕ = b - length p.blocks in let under : c < length (counted p q) = omega arith in

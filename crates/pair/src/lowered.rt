@@ -1,10 +1,10 @@
 // A part under an endurance that may be lower than its own.
 ghost use Rattle.std.specs.Prelude.{◌≡◌, min};
-ghost use Rattle.flash.specs.Part.{erases};
-ghost use Rattle.flash.specs.Answers.{after_erase};
+ghost use Rattle.flash.specs.Part.{erases, erased};
+ghost use Rattle.flash.specs.Answers.{either};
 ghost use Rattle.pair.specs.Shown.{lowered_answer};
 
-use flash::{Flash, PartRefusal};
+use flash::{Flash, Refusal};
 
 // How often the block was erased; a higher count shows as `endurance`.
 pub(crate) fn erases_within<F: Flash>(part: &F, block: usize, endurance: u32) -> u32
@@ -18,12 +18,12 @@ pub(crate) fn erase_within<F: Flash>(
     part: &mut F,
     block: usize,
     endurance: u32,
-) -> Result<(), PartRefusal>
+) -> Result<(), Refusal>
     ensures answer { result ≡ lowered_answer (F.Flash.shows part.old) block endurance }
-    ensures after { F.Flash.shows part.new ≡ after_erase result (F.Flash.shows part.old) block }
+    ensures after { F.Flash.shows part.new ≡ either result (erased (F.Flash.shows part.old) block) (F.Flash.shows part.old) }
 {
     if part.erases(block) < endurance {
         return part.erase(block);
     }
-    Err(PartRefusal::EnduranceReached)
+    Err(Refusal::WornOut)
 }

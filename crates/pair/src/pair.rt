@@ -1,13 +1,15 @@
 // The pair itself. It finds the part that has the block, and lowers both parts to the smaller endurance.
-ghost use Rattle.std.specs.Prelude.{◌≡◌, length};
-ghost use Rattle.flash.specs.Part.{Sound, page_bytes};
-ghost use Rattle.flash.specs.Answers.{program_answer, read_answer, erase_answer, if_accepted, after_program, after_erase};
-ghost use Rattle.pair.specs.Shown.{shown_by, counted, shown_count, Located, first_after_program, second_after_program, first_after_erase, second_after_erase};
+ghost use Rattle.std.specs.Prelude.{◌≡◌, ◌-◌, length};
+ghost use Rattle.flash.specs.Part.{Sound, content, appended, erased};
+ghost use Rattle.flash.specs.Answers.{program_answer, read_answer, erase_answer, either};
+ghost use Rattle.pair.specs.Shown.{pair_of, counted, shown_count, Stands, first_after, second_after};
 
 use crate::lowered::{erase_within, erases_within};
 use crate::place::Place;
-use flash::{Flash, MOST_BLOCKS, PartRefusal};
-use page::PAGE_SIZE;
+use flash::{Flash, Refusal};
+
+// The most blocks that a pair shows.
+const MOST_BLOCKS: usize = 255;
 
 #[derive(Drop)]
 pub struct Pair<F, G> {
@@ -16,7 +18,7 @@ pub struct Pair<F, G> {
 }
 
 impl<F: Flash, G: Flash> Pair<F, G> {
-    // Shows the blocks of `first`, then those of `second`, up to the most that a part has.
+    // Shows the blocks of `first`, then those of `second`, up to 255 in all.
     pub fn new(first: F, second: G) -> Self
         ensures first { result.first ≡ first }
         ensures second { result.second ≡ second }
@@ -59,7 +61,7 @@ impl<F: Flash, G: Flash> Pair<F, G> {
 
     // Where the block stands.
     fn place(&self, block: usize) -> Place
-        ensures found { Located (F.Flash.shows self.now.first) (G.Flash.shows self.now.second) block result }
+        ensures found { Stands (F.Flash.shows self.now.first) (G.Flash.shows self.now.second) block result }
     {
         let shown = self.shown_blocks();
         let before = self.first.blocks();
@@ -74,7 +76,7 @@ impl<F: Flash, G: Flash> Pair<F, G> {
 }
 
 impl<F: Flash, G: Flash> Flash for Pair<F, G> {
-    ghost shows = { shown_by F.Flash.shows G.Flash.shows };
+    ghost shows = { λ w. pair_of (F.Flash.shows w.first) (G.Flash.shows w.second) };
 
     fn blocks(&self) -> usize {
         self.shown_blocks()
@@ -105,54 +107,44 @@ impl<F: Flash, G: Flash> Flash for Pair<F, G> {
     }
 
     // `first` and `second` say what the two parts show afterwards, also of blocks that the pair does not show: only the one block's part changes.
-    fn program(
-        &mut self,
-        block: usize,
-        page: usize,
-        bytes: &[u8; PAGE_SIZE],
-    ) -> Result<(), PartRefusal>
-        ensures answer { result ≡ program_answer (shown_by F.Flash.shows G.Flash.shows self.old) block page }
-        ensures after { shown_by F.Flash.shows G.Flash.shows self.new ≡ after_program result (shown_by F.Flash.shows G.Flash.shows self.old) block bytes.now }
-        ensures first { F.Flash.shows self.new.first ≡ first_after_program F.Flash.shows result self.old block bytes.now }
-        ensures second { G.Flash.shows self.new.second ≡ second_after_program F.Flash.shows G.Flash.shows result self.old block bytes.now }
+    fn program(&mut self, block: usize, page: usize, bytes: &[u8; 256]) -> Result<(), Refusal>
+        ensures answer { result ≡ program_answer (pair_of (F.Flash.shows self.old.first) (G.Flash.shows self.old.second)) block page }
+        ensures after { pair_of (F.Flash.shows self.new.first) (G.Flash.shows self.new.second) ≡ either result (appended (pair_of (F.Flash.shows self.old.first) (G.Flash.shows self.old.second)) block bytes.now) (pair_of (F.Flash.shows self.old.first) (G.Flash.shows self.old.second)) }
+        ensures first { F.Flash.shows self.new.first ≡ first_after (F.Flash.shows self.old.first) block result (appended (F.Flash.shows self.old.first) block bytes.now) }
+        ensures second { G.Flash.shows self.new.second ≡ second_after (F.Flash.shows self.old.first) (G.Flash.shows self.old.second) block result (appended (G.Flash.shows self.old.second) (block - length (F.Flash.shows self.old.first).blocks) bytes.now) }
     {
         match self.place(block) {
             Place::First(under) => self.first.program(under, page, bytes),
             Place::Second(under) => self.second.program(under, page, bytes),
-            Place::Nowhere => Err(PartRefusal::NoSuchPage),
+            Place::Nowhere => Err(Refusal::NoSuchPage),
         }
     }
 
-    fn read(
-        &mut self,
-        block: usize,
-        page: usize,
-        buffer: &mut [u8; PAGE_SIZE],
-    ) -> Result<(), PartRefusal>
-        ensures answer { result ≡ read_answer (shown_by F.Flash.shows G.Flash.shows self.old) block page }
-        ensures buffer { buffer.new ≡ if_accepted result (page_bytes (shown_by F.Flash.shows G.Flash.shows self.old) block page) buffer.old }
-        ensures after { shown_by F.Flash.shows G.Flash.shows self.new ≡ shown_by F.Flash.shows G.Flash.shows self.old }
+    fn read(&mut self, block: usize, page: usize, buffer: &mut [u8; 256]) -> Result<(), Refusal>
+        ensures answer { result ≡ read_answer (pair_of (F.Flash.shows self.old.first) (G.Flash.shows self.old.second)) block page }
+        ensures buffer { buffer.new ≡ either result (content (pair_of (F.Flash.shows self.old.first) (G.Flash.shows self.old.second)) block page) buffer.old }
+        ensures after { pair_of (F.Flash.shows self.new.first) (G.Flash.shows self.new.second) ≡ pair_of (F.Flash.shows self.old.first) (G.Flash.shows self.old.second) }
         ensures first { F.Flash.shows self.new.first ≡ F.Flash.shows self.old.first }
         ensures second { G.Flash.shows self.new.second ≡ G.Flash.shows self.old.second }
     {
         match self.place(block) {
             Place::First(under) => self.first.read(under, page, buffer),
             Place::Second(under) => self.second.read(under, page, buffer),
-            Place::Nowhere => Err(PartRefusal::NoSuchPage),
+            Place::Nowhere => Err(Refusal::NoSuchPage),
         }
     }
 
-    fn erase(&mut self, block: usize) -> Result<(), PartRefusal>
-        ensures answer { result ≡ erase_answer (shown_by F.Flash.shows G.Flash.shows self.old) block }
-        ensures after { shown_by F.Flash.shows G.Flash.shows self.new ≡ after_erase result (shown_by F.Flash.shows G.Flash.shows self.old) block }
-        ensures first { F.Flash.shows self.new.first ≡ first_after_erase F.Flash.shows result self.old block }
-        ensures second { G.Flash.shows self.new.second ≡ second_after_erase F.Flash.shows G.Flash.shows result self.old block }
+    fn erase(&mut self, block: usize) -> Result<(), Refusal>
+        ensures answer { result ≡ erase_answer (pair_of (F.Flash.shows self.old.first) (G.Flash.shows self.old.second)) block }
+        ensures after { pair_of (F.Flash.shows self.new.first) (G.Flash.shows self.new.second) ≡ either result (erased (pair_of (F.Flash.shows self.old.first) (G.Flash.shows self.old.second)) block) (pair_of (F.Flash.shows self.old.first) (G.Flash.shows self.old.second)) }
+        ensures first { F.Flash.shows self.new.first ≡ first_after (F.Flash.shows self.old.first) block result (erased (F.Flash.shows self.old.first) block) }
+        ensures second { G.Flash.shows self.new.second ≡ second_after (F.Flash.shows self.old.first) (G.Flash.shows self.old.second) block result (erased (G.Flash.shows self.old.second) (block - length (F.Flash.shows self.old.first).blocks)) }
     {
         let endurance = self.endurance();
         match self.place(block) {
             Place::First(under) => erase_within(&mut self.first, under, endurance),
             Place::Second(under) => erase_within(&mut self.second, under, endurance),
-            Place::Nowhere => Err(PartRefusal::NoSuchPage),
+            Place::Nowhere => Err(Refusal::NoSuchPage),
         }
     }
 }

@@ -2,14 +2,12 @@
 use crate::refusals::code;
 use flash::Flash;
 use memory::MemoryPart;
-use page::PAGE_SIZE;
 use pair::Pair;
 
-// A record with one page.
-const RECORD: usize = 8 + PAGE_SIZE;
+// A record with one page, and 256 of them.
+const RECORD: usize = 264;
 
-// One record more than a part has blocks.
-const RECORDS: usize = 256 * RECORD;
+const RECORDS: usize = 67_584;
 
 #[test]
 fn pages_are_limited(rt: HostRuntime) {
@@ -80,14 +78,14 @@ fn unlike_pages_leave_the_second_out(rt: HostRuntime) {
 #[test]
 fn counts_are_limited_on_attach(rt: HostRuntime) {
     let mut bytes = [255; RECORD];
-    let mut buffer = [0; PAGE_SIZE];
+    let mut buffer = [0; 256];
     let mut part = MemoryPart::attach(&mut bytes, 1, 10);
     assert_eq!(rt; part.written(0), 1);
     assert_eq!(rt; part.erases(0), 10);
     assert_eq!(rt; code(part.program(0, 0, &buffer)), 17);
     assert_eq!(rt; code(part.erase(0)), 19);
     assert_eq!(rt; code(part.read(0, 0, &mut buffer)), 0);
-    assert_eq!(rt; buffer, [255; PAGE_SIZE]);
+    assert_eq!(rt; buffer, [255; 256]);
 }
 
 // Bytes 2 and 3 of a record stay through an erase, and the counts stand with their lowest byte first.

@@ -1,57 +1,31 @@
-// The refusals of each part and of a pile of them: a block or page that is not there 16, out of turn 17, unwritten 18, at its endurance 19.
-use crate::refusals::code;
+// The refusals of each part and of a pile of them: a block or page that is not there 16, out of turn 17, unwritten 18, worn out 19.
+use crate::refusals::{answers, code};
 use flash::Flash;
 use memory::MemoryPart;
-use page::PAGE_SIZE;
 use pair::Pair;
 use window::Window;
 
-// Pages to a block.
+// Two pages to a block: a record of 520 bytes.
 const PAGES: usize = 2;
 
-// The bytes of one block.
-const ONE: usize = 8 + PAGE_SIZE * PAGES;
+const THREE: usize = 1560;
 
-// The bytes of three blocks.
-const THREE: usize = 3 * ONE;
+const ONE: usize = 520;
 
-// The answers of a part with `blocks` clean blocks of `pages` pages: a block too far in each call, a page too far, a page out
-// of turn, an unwritten page, and then one page programmed, programmed again and read.
-fn answers<F: Flash>(
-    part: &mut F,
-    blocks: usize,
-    pages: usize,
-    buffer: &mut [u8; PAGE_SIZE],
-) -> [u8; 9] {
-    let page = [7; PAGE_SIZE];
-    [
-        code(part.erase(blocks)),
-        code(part.program(blocks, 0, &page)),
-        code(part.read(blocks, 0, buffer)),
-        code(part.program(0, pages, &page)),
-        code(part.program(0, 1, &page)),
-        code(part.read(0, 0, buffer)),
-        code(part.program(0, 0, &page)),
-        code(part.program(0, 0, &page)),
-        code(part.read(0, 0, buffer)),
-    ]
-}
-
-// Those answers.
 const EXPECTED: [u8; 9] = [16, 16, 16, 16, 17, 18, 0, 17, 0];
 
 #[test]
 fn memory_refuses(rt: HostRuntime) {
     let mut bytes = [0; THREE];
-    let mut buffer = [1; PAGE_SIZE];
+    let mut buffer = [1; 256];
     let mut part = MemoryPart::fresh(&mut bytes, PAGES, 100);
     assert_eq!(rt; part.blocks(), 3);
     assert_eq!(rt; answers(&mut part, 3, PAGES, &mut buffer), EXPECTED);
-    assert_eq!(rt; buffer, [7; PAGE_SIZE]);
+    assert_eq!(rt; buffer, [7; 256]);
 }
 
 #[test]
-fn memory_reaches_its_endurance(rt: HostRuntime) {
+fn memory_wears_out(rt: HostRuntime) {
     let mut bytes = [0; THREE];
     let mut part = MemoryPart::fresh(&mut bytes, PAGES, 0);
     assert_eq!(rt; code(part.erase(0)), 19);
@@ -59,7 +33,7 @@ fn memory_reaches_its_endurance(rt: HostRuntime) {
 }
 
 #[test]
-fn piles_reach_their_endurance(rt: HostRuntime) {
+fn piles_wear_out(rt: HostRuntime) {
     let mut first = [0; ONE];
     let mut second = [0; THREE];
     let mut pair = Pair::new(
@@ -76,7 +50,7 @@ fn piles_reach_their_endurance(rt: HostRuntime) {
 #[test]
 fn window_refuses(rt: HostRuntime) {
     let mut bytes = [0; THREE];
-    let mut buffer = [1; PAGE_SIZE];
+    let mut buffer = [1; 256];
     let mut part = Window::new(MemoryPart::fresh(&mut bytes, PAGES, 1), 1, 9);
     assert_eq!(rt; part.blocks(), 2);
     assert_eq!(rt; answers(&mut part, 2, PAGES, &mut buffer), EXPECTED);
@@ -91,7 +65,7 @@ fn window_refuses(rt: HostRuntime) {
 fn pair_refuses(rt: HostRuntime) {
     let mut first = [0; ONE];
     let mut second = [0; THREE];
-    let mut buffer = [1; PAGE_SIZE];
+    let mut buffer = [1; 256];
     let one = MemoryPart::fresh(&mut first, PAGES, 5);
     let three = MemoryPart::fresh(&mut second, PAGES, 1);
     let mut part = Pair::new(one, three);
@@ -107,7 +81,7 @@ fn pair_refuses(rt: HostRuntime) {
 fn pile_refuses(rt: HostRuntime) {
     let mut first = [0; ONE];
     let mut second = [0; THREE];
-    let mut buffer = [1; PAGE_SIZE];
+    let mut buffer = [1; 256];
     let one = MemoryPart::fresh(&mut first, PAGES, 5);
     let three = MemoryPart::fresh(&mut second, PAGES, 1);
     let mut part = Window::new(Pair::new(one, three), 1, 3);

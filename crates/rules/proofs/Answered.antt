@@ -1,27 +1,27 @@
 -- Every call is answered in a state that stands.
-use Rattle.std.proofs.Common.{◌≡◌, ℕ, zero, suc, ◌<◌, ◌≤◌, Bool, true, false, ◌&&◌, eqb, ltb, ◌⊎◌, length, replicate, Some, None, Ok, Err, Option, Result, sym, refl, ap, ◌∙◌, inl, inr, ⊎_elim, arith}
-use Rattle.std.proofs.lemmas.List.{get_or_past, length-replicate}
+use Rattle.std.proofs.Common.{◌≡◌, ℕ, zero, suc, ◌<◌, ◌≤◌, Bool, true, false, ◌&&◌, eqb, ltb, ◌⊎◌, length, Some, None, Ok, Err, Option, Result, sym, refl, ap, ◌∙◌, inl, inr, ⊎_elim, arith}
+use Rattle.std.proofs.lemmas.List.{get_or_past}
 use Rattle.std.proofs.lemmas.Bool.{cases_Bool, cases_lt, cases_eq, cases_order, both_ways, eq-eqb, eqb-true, lt-ltb, ltb-true, and_parts, and_from}
 use Rattle.page.specs.Same.{same_bytes}
 use Rattle.page.proofs.Same.{same_from_equal, equal_from_same}
 use Rattle.rules.specs.declared.refusal.Refusal.{Refusal}
-use Rattle.rules.specs.declared.refusal.Refusal.TheVariants.{WornOut, NoSuchHostPage, Length, Empty, NothingToCollect, ShortBuffer}
+use Rattle.rules.specs.declared.refusal.Refusal.TheVariants.{WornOut, NoSuchPage, Length, Empty, NothingToCollect, ShortBuffer}
 use Rattle.rules.specs.declared.kind.Kind.TheVariants.{Stored, Shared, Unchanged}
 use Rattle.rules.specs.declared.answer.Written.{Written}
 use Rattle.rules.specs.declared.answer.Usage.{Usage}
-use Rattle.rules.specs.declared.answer.Answer.TheVariants.{Wrote, Page, Trimmed, PagesMoved, PagesDied, Used, Saved}
-use Rattle.rules.specs.declared.entry.Entry.{Entry}
-use Rattle.rules.specs.State.{Bytes, State, tally, block_count, flash_pages, host_pages, content, in_use, is_clean, hotness, clean_blocks, live_in, live_pages, dead_pages, unwritten_pages, held}
+use Rattle.rules.specs.declared.answer.Answer.TheVariants.{Wrote, Page, Number, Used}
+use Rattle.rules.specs.State.{Bytes, Entry, State, tally, block_count, per_block, flash_pages, host_pages, content, in_use, is_clean, hotness, clean_blocks, live_in, live_pages, dead_pages, unwritten_pages, held}
 use Rattle.rules.specs.Tables.{next_page, merged}
 use Rattle.rules.specs.Store.{entry_at, Offers}
-use Rattle.rules.specs.Calls.{Ready, Stores, Holds, NoneOffered, Writes, Reads, Trims, Collects, Copies, Merges, saved_length, Saves}
-use Rattle.rules.specs.Stands.{Stands, Mid}
-use Rattle.rules.specs.Runs.{answer_of}
+use Rattle.rules.specs.Calls.{Ready, Stores, Holds, NoneOffered, Writes, Reads, Trims, Collects, Copies, Merges}
+use Rattle.rules.specs.Image.{image_length}
+use Rattle.rules.specs.Stands.{Stands}
+use Rattle.rules.specs.Runs.{Saves, answer_of}
 use Rattle.rules.specs.Runs.Call.{write, read, trim, collect, scan, usage, save}
 use Rattle.rules.specs.Theorems.{EveryCallAnswered}
 use Rattle.rules.proofs.Cases.{none_some}
 use Rattle.rules.proofs.Tally.{tally_find, tally_pos}
-use Rattle.rules.proofs.Moving.{mid}
+use Rattle.rules.proofs.Moving.{Mid, mid}
 use Rattle.rules.proofs.Scanning.{merged_mid, merged_pages}
 use Rattle.rules.proofs.Readying.{ready_after}
 use Rattle.rules.proofs.Supplies.{free_entry}
@@ -48,40 +48,40 @@ same_content_if_equal : (o p : Option Bytes) → o ≡ p → same_content o p �
 same_content_if_equal o p e = ap (same_content o) (sym e) ∙ content_self o
 
 -- Whether the store offers a page for x.
-offers_or : (fingerprint : Bytes → ℕ) (s : State) (x : Bytes) → Stands fingerprint s → ((q : ℕ) × Offers fingerprint s x q) ⊎ NoneOffered fingerprint s x
-offers_or fingerprint s x h =
+offers_or : (print : Bytes → ℕ) (s : State) (x : Bytes) → Stands print s → ((q : ℕ) × Offers print s x q) ⊎ NoneOffered print s x
+offers_or print s x h =
     ⊎_elim
     (λ none. inr (λ q o. both_ways (offer (entry_at s.store o.0)) (none o.0 (place o))
-    (ap offer o.1 ∙ and_from (eqb (fingerprint x) (fingerprint x)) (same_content (content s.part q) (Some x)) (eq-eqb (fingerprint x) (fingerprint x) refl)
+    (ap offer o.1 ∙ and_from (eqb (print x) (print x)) (same_content (content s.part q) (Some x)) (eq-eqb (print x) (print x) refl)
     (same_content_if_equal (content s.part q) (Some x) o.2))))
     (λ k. let r = found (entry_at s.store k.0) k.2 in inl (r.0, (k.0, r.1, r.2)))
     (least_of (λ k. offer (entry_at s.store k)) (λ k. k) 256)
   where
     offer : Option Entry → Bool
     offer None = false
-    offer (Some e) = eqb e.fingerprint (fingerprint x) && same_content (content s.part e.page) (Some x)
+    offer (Some e) = eqb e.print (print x) && same_content (content s.part e.page) (Some x)
 
     found : (o : Option Entry) → offer o ≡ true
-        → (q : ℕ) × (o ≡ Some (record { fingerprint = fingerprint x; page = q })) × (content s.part q ≡ Some x)
+        → (q : ℕ) × (o ≡ Some (record { print = print x; page = q })) × (content s.part q ≡ Some x)
     found None t = absurd (both_ways false refl t)
     found (Some e) t =
-        let r = and_parts (eqb e.fingerprint (fingerprint x)) (same_content (content s.part e.page) (Some x)) t in (
+        let r = and_parts (eqb e.print (print x)) (same_content (content s.part e.page) (Some x)) t in (
           e.page,
-          ap (λ i. Some (record { fingerprint = i; page = e.page })) (eqb-true e.fingerprint (fingerprint x) r.0),
+          ap (λ i. Some (record { print = i; page = e.page })) (eqb-true e.print (print x) r.0),
           content_same (content s.part e.page) (Some x) r.1,
         )
 
-    place : {q : ℕ} → (o : Offers fingerprint s x q) → o.0 < 256
+    place : {q : ℕ} → (o : Offers print s x q) → o.0 < 256
     place {q} o =
         ⊎_elim (λ l. l)
         (λ past. absurd (none_some (entry_at s.store o.0) _ (get_or_past s.store o.0 None (omega (arith, past, h.stores.places))) o.1))
         (cases_lt o.0 256)
 
 -- In a ready state a page can be stored.
-stores_some : (fingerprint : Bytes → ℕ) (u : State) (n : ℕ) (x : Bytes) → Ready u → (t : State) × Stores fingerprint u n x t
-stores_some fingerprint u n x ready =
+stores_some : (print : Bytes → ℕ) (u : State) (n : ℕ) (x : Bytes) → Ready u → (t : State) × Stores print u n x t
+stores_some print u n x ready =
     let b = takes_some u (⊎_elim (λ p. inl p) (λ two. inr (tally_find (is_clean u) (block_count u) (omega arith))) ready) in
-    let en = entered_some (hotness u) u.store (record { fingerprint = fingerprint x; page = next_page u b.0 }) 1 in
+    let en = entered_some (hotness u) u.store (record { print = print x; page = next_page u b.0 }) 1 in
     (_, (b.0, en.0, b.1, en.1, refl))
 
 ready_or : (s : State) → Ready s ⊎ (Ready s → ⊥)
@@ -91,15 +91,15 @@ ready_or s =
     (part_written_or s)
 
 -- A page that is not there yet is stored, or refused with 3.
-write_new : (fingerprint : Bytes → ℕ) (s : State) (n : ℕ) (x : Bytes) → Stands fingerprint s → n < host_pages s → length x ≡ 256
-    → (Holds s n x → ⊥) → NoneOffered fingerprint s x → (r : Result Written Refusal) × (t : State) × Writes fingerprint s n x r t
-write_new fingerprint s n x h inside whole other none =
+write_new : (print : Bytes → ℕ) (s : State) (n : ℕ) (x : Bytes) → Stands print s → n < host_pages s → length x ≡ 256
+    → (Holds s n x → ⊥) → NoneOffered print s x → (r : Result Written Refusal) × (t : State) × Writes print s n x r t
+write_new print s n x h inside whole other none =
     ⊎_elim
-    (λ ready. let st = stores_some fingerprint s n x ready in
+    (λ ready. let st = stores_some print s n x ready in
     (Ok (record { kind = Stored; moved = 0 }), st.0, (inside, whole, (other, none, (s, inl (ready, refl, refl), st.1)))))
     (λ unready. ⊎_elim
-    (λ v. let u = collected_some fingerprint s v.0 h v.1 in
-    let st = stores_some fingerprint u.0 n x (ready_after fingerprint s v.0 u.0 h unready v.1 u.1) in (
+    (λ v. let u = collected_some print s v.0 h v.1 in
+    let st = stores_some print u.0 n x (ready_after print s v.0 u.0 h unready v.1 u.1) in (
       Ok (record { kind = Stored; moved = live_in s v.0 }),
       st.0,
       (inside, whole, (other, none, (u.0, inr (unready, (v.0, v.1, refl, u.1)), st.1))),
@@ -108,8 +108,8 @@ write_new fingerprint s n x h inside whole other none =
     (victim_or s))
     (ready_or s)
 
-write_some : (fingerprint : Bytes → ℕ) (s : State) (n : ℕ) (x : Bytes) → Stands fingerprint s → (r : Result Written Refusal) × (t : State) × Writes fingerprint s n x r t
-write_some fingerprint s n x h =
+write_some : (print : Bytes → ℕ) (s : State) (n : ℕ) (x : Bytes) → Stands print s → (r : Result Written Refusal) × (t : State) × Writes print s n x r t
+write_some print s n x h =
     ⊎_elim
     (λ inside. ⊎_elim
     (λ whole. ⊎_elim
@@ -117,37 +117,36 @@ write_some fingerprint s n x h =
     (λ differs. let other : Holds s n x → ⊥ = λ e. both_ways _ differs (same_content_if_equal (held s n) (Some x) e) in
     ⊎_elim
     (λ o. let st = h.stores.each o.1.0 _ o.1.1 in
-    let e = free_entry fingerprint s o.0 (mid fingerprint s h) st.inside st.live in
+    let e = free_entry print s o.0 (mid print s h) st.inside st.live in
     (Ok (record { kind = Shared; moved = 0 }), _, (inside, whole, (other, refl, (o.0, e.0, o.1, e.1, refl)))))
-    (λ none. write_new fingerprint s n x h inside whole other none)
-    (offers_or fingerprint s x h))
+    (λ none. write_new print s n x h inside whole other none)
+    (offers_or print s x h))
     (cases_Bool (same_content (held s n) (Some x))))
     (λ short. (Err Length, s, (refl, inr (inl (refl, inside, short)))))
     (cases_eq (length x) 256))
-    (λ out. (Err NoSuchHostPage, s, (refl, inl (refl, out))))
+    (λ out. (Err NoSuchPage, s, (refl, inl (refl, out))))
     (cases_lt n (host_pages s))
 
-read_some : (s : State) (n : ℕ) (before : Bytes) → (r : Result (Unit {0}) Refusal) × (t : State) × (after : Bytes) × Reads s n before r t after
-read_some s n before =
+read_some : (s : State) (n len : ℕ) → (r : Result Bytes Refusal) × (t : State) × Reads s n len r t
+read_some s n len =
     ⊎_elim
     (λ inside. ⊎_elim (λ whole. by inside whole (held s n) refl)
-    (λ short. (Err Length, s, before, (refl, refl, inr (inl (refl, inside, short))))) (cases_eq (length before) 256))
-    (λ out. (Err NoSuchHostPage, s, before, (refl, refl, inl (refl, out))))
+    (λ short. (Err Length, s, (refl, inr (inl (refl, inside, short))))) (cases_eq len 256))
+    (λ out. (Err NoSuchPage, s, (refl, inl (refl, out))))
     (cases_lt n (host_pages s))
   where
-    by : n < host_pages s → length before ≡ 256 → (o : Option Bytes) → held s n ≡ o
-        → (r : Result (Unit {0}) Refusal) × (t : State) × (after : Bytes) × Reads s n before r t after
-    by inside whole None is = (Err Empty, s, before, (refl, refl, inr (inr (refl, inside, whole, is))))
-    by inside whole (Some x) is = (Ok tt, s, x, (refl, inside, whole, is))
+    by : n < host_pages s → len ≡ 256 → (o : Option Bytes) → held s n ≡ o → (r : Result Bytes Refusal) × (t : State) × Reads s n len r t
+    by inside whole None is = (Err Empty, s, (refl, inr (inr (refl, inside, whole, is))))
+    by inside whole (Some x) is = (Ok x, s, (refl, inside, whole, is))
 
 trim_some : (s : State) (n : ℕ) → (r : Result ℕ Refusal) × (t : State) × Trims s n r t
 trim_some s n =
-    ⊎_elim (λ inside. (Ok _, _, (inside, refl, refl))) (λ out. (Err NoSuchHostPage, s, (refl, (refl, out)))) (cases_lt n (host_pages s))
+    ⊎_elim (λ inside. (Ok _, _, (inside, refl, refl))) (λ out. (Err NoSuchPage, s, (refl, (refl, out)))) (cases_lt n (host_pages s))
 
-collect_some : (fingerprint : Bytes → ℕ) (s : State) → Stands fingerprint s → (r : Result ℕ Refusal) × (t : State) × Collects s r t
-collect_some fingerprint s h =
+collect_some : (print : Bytes → ℕ) (s : State) → Stands print s → (r : Result ℕ Refusal) × (t : State) × Collects s r t
+collect_some print s h =
     ⊎_elim
-    (λ v. let t = collected_some fingerprint s v.0 h v.1 in (Ok (live_in s v.0), t.0, (v.0, v.1, refl, t.1)))
+    (λ v. let t = collected_some print s v.0 h v.1 in (Ok (live_in s v.0), t.0, (v.0, v.1, refl, t.1)))
     (λ worn. ⊎_elim (λ b. (Err WornOut, s, (refl, inr (refl, b, worn)))) (λ none. (Err NothingToCollect, s, (refl, inl (refl, none))))
     (collectable_or s))
     (victim_or s)
@@ -188,38 +187,31 @@ copies_or s =
         (same_content_if_equal (content s.part i) (content s.part j) c.4))))
 
 -- Merging ends, since every merge leaves one page less in use.
-merges_some : (fingerprint : Bytes → ℕ) (fuel : ℕ) (s : State) → Mid fingerprint s → live_pages s ≤ fuel → (died : ℕ) × (t : State) × Merges died s t
-merges_some fingerprint zero s h few =
+merges_some : (print : Bytes → ℕ) (fuel : ℕ) (s : State) → Mid print s → live_pages s ≤ fuel → (died : ℕ) × (t : State) × Merges died s t
+merges_some print zero s h few =
     ⊎_elim (λ c. absurd (let p = tally_pos (in_use s) (flash_pages s) c.0 c.3.0 c.3.2 in omega arith))
     (λ none. (0, s, (refl, none))) (copies_or s)
-merges_some fingerprint (suc fuel) s h few =
+merges_some print (suc fuel) s h few =
     ⊎_elim
-    (λ c. let e = free_entry fingerprint s c.0 h c.3.0 c.3.2 in
-    let m = merged_mid fingerprint s c.0 c.1 e.0 h c.2 c.3 e.1 in
-    let r = merges_some fingerprint fuel (merged s c.0 c.1 e.0) m (omega (arith, merged_pages fingerprint s c.0 c.1 e.0 h c.2 c.3 e.1)) in
+    (λ c. let e = free_entry print s c.0 h c.3.0 c.3.2 in
+    let m = merged_mid print s c.0 c.1 e.0 h c.2 c.3 e.1 in
+    let r = merges_some print fuel (merged s c.0 c.1 e.0) m (omega (arith, merged_pages print s c.0 c.1 e.0 h c.2 c.3 e.1)) in
     (suc r.0, r.1, (c.0, c.1, e.0, c.2, c.3, c.4, e.1, r.2)))
     (λ none. (0, s, (refl, none))) (copies_or s)
 
--- A buffer of any length can be given.
-blank : (len : ℕ) → (before : Bytes) × (length before ≡ len)
-blank len = (replicate len 0, length-replicate len 0)
-
-save_some : (s : State) (before : Bytes) → (r : Result ℕ Refusal) × (t : State) × (after : Bytes) × Saves s before r t after
-save_some s before =
-    ⊎_elim (λ short. (Err ShortBuffer, s, before, (refl, refl, refl, short))) (λ fits. (Ok _, s, before, (refl, refl, fits, refl, refl)))
-    (cases_lt (length before) (saved_length s))
+save_some : (s : State) (len : ℕ) → (r : Result ℕ Refusal) × (t : State) × Saves s len r t
+save_some s len =
+    ⊎_elim (λ short. (Err ShortBuffer, s, (refl, refl, short))) (λ fits. (Ok _, s, (refl, refl, fits)))
+    (cases_lt len (image_length (block_count s) (per_block s) (host_pages s)))
 
 pub every_call_answered : EveryCallAnswered
-every_call_answered fingerprint s (write n x) h = let r = write_some fingerprint s n x h in (answer_of Wrote r.0, r.1, (r.0, refl, r.2))
-every_call_answered fingerprint s (read n len) h =
-    let b = blank len in let r = read_some s n b.0 in
-    (answer_of (λ u. Page r.2) r.0, r.1, (r.0, b.0, r.2, b.1, refl, r.3))
-every_call_answered fingerprint s (trim n) h = let r = trim_some s n in (answer_of Trimmed r.0, r.1, (r.0, refl, r.2))
-every_call_answered fingerprint s collect h = let r = collect_some fingerprint s h in (answer_of PagesMoved r.0, r.1, (r.0, refl, r.2))
-every_call_answered fingerprint s scan h =
-    let r = merges_some fingerprint (live_pages s) s (mid fingerprint s h) (omega arith) in (PagesDied r.0, r.1, (Ok r.0, refl, r.2))
-every_call_answered fingerprint s usage h =
+every_call_answered print s (write n x) h = let r = write_some print s n x h in (answer_of Wrote r.0, r.1, (r.0, refl, r.2))
+every_call_answered print s (read n len) h = let r = read_some s n len in (answer_of Page r.0, r.1, (r.0, refl, r.2))
+every_call_answered print s (trim n) h = let r = trim_some s n in (answer_of Number r.0, r.1, (r.0, refl, r.2))
+every_call_answered print s collect h = let r = collect_some print s h in (answer_of Number r.0, r.1, (r.0, refl, r.2))
+every_call_answered print s scan h =
+    let r = merges_some print (live_pages s) s (mid print s h) (omega arith) in (Number r.0, r.1, (Ok r.0, refl, r.2))
+every_call_answered print s usage h =
     let u : Usage = record { live = live_pages s; dead = dead_pages s; unwritten = unwritten_pages s } in
     (Used u, s, (Ok u, refl, (refl, refl, refl, refl)))
-every_call_answered fingerprint s (save len) h =
-    let b = blank len in let r = save_some s b.0 in (answer_of Saved r.0, r.1, (r.0, b.0, r.2, b.1, refl, r.3))
+every_call_answered print s (save len) h = let r = save_some s len in (answer_of Number r.0, r.1, (r.0, refl, r.2))

@@ -4,9 +4,12 @@ use Rattle.std.proofs.lemmas.List.{length_push, length-set}
 use Rattle.std.proofs.lemmas.Bool.{cases_eq, eqb-true, lt-ltb, ltb-true, and_parts, and_from}
 use Rattle.flash.specs.Part.{Block, Part, block, written, appended, erased}
 use Rattle.flash.proofs.Keeps.{block_put, block_other}
-use Rattle.rules.specs.Stands.{Single}
 use Rattle.rules.specs.State.{Bytes, State, block_count, per_block, is_clean, is_closed, is_part_written}
 use Rattle.rules.specs.Calls.{Takes}
+
+-- At most one block is part-written.
+abbrev pub Single : State → Type 0
+Single s = (b c : ℕ) → b < block_count s → c < block_count s → is_part_written s b ≡ true → is_part_written s c ≡ true → b ≡ c
 
 -- What a test on a block's pages written says.
 pub part_written_in : (s : State) (b : ℕ) → is_part_written s b ≡ true → (0 < written s.part b) × (written s.part b < per_block s)

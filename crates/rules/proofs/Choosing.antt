@@ -4,8 +4,7 @@ use Rattle.std.proofs.lemmas.List.{length-set}
 use Rattle.std.proofs.lemmas.Bool.{cases_Bool, cases_lt, cases_eq, both_ways, eq-eqb, eqb-true, lt-ltb, ltb-true, and_parts, and_from}
 use Rattle.std.proofs.lemmas.Nat.{div-mul-add, mod_below}
 use Rattle.flash.specs.Part.{written, erases}
-use Rattle.rules.specs.declared.entry.Entry.{Entry}
-use Rattle.rules.specs.State.{Bytes, State, block_count, per_block, is_clean, is_closed, is_part_written, in_use_at, live_in}
+use Rattle.rules.specs.State.{Bytes, Entry, State, block_count, per_block, is_clean, is_closed, is_part_written, in_use_at, live_in}
 use Rattle.rules.specs.Tables.{moved_to}
 use Rattle.rules.specs.Store.{entry_at, InSegment, Full, Entered}
 use Rattle.rules.specs.Store.Entered.{takes, replaces, left_out}
@@ -121,8 +120,8 @@ moves_some v (k ∷ ks) s (inl (c, few)) =
     (part_written_or s)
 
 -- Every victim can be collected.
-pub collected_some : (fingerprint : Bytes → ℕ) (s : State) (v : ℕ) → Stands fingerprint s → Victim s v → (t : State) × Collected s v t
-collected_some fingerprint s v h victim =
+pub collected_some : (print : Bytes → ℕ) (s : State) (v : ℕ) → Stands print s → Victim s v → (t : State) × Collected s v t
+collected_some print s v h victim =
     let ks = below (in_use_at s v) (per_block s) in
     let r = moves_some v ks s (inl (
       h.blocks.spare,
@@ -182,9 +181,9 @@ entered_some hot store new heat =
     (λ empty. absurd (both_ways (in_segment start) (empty start start_small) start_in))
     (λ k. let full = all_full none in
     let old = full k.0 (segment_is k.0 k.1 k.2) in
-    let cold : (j : ℕ) (e : Entry) → InSegment new.fingerprint j → entry_at store j ≡ Some e → hot old.0.page ≤ hot e.page =
+    let cold : (j : ℕ) (e : Entry) → InSegment new.print j → entry_at store j ≡ Some e → hot old.0.page ≤ hot e.page =
     λ j e seg is. subst (λ o. hot (page_of o) ≤ hot e.page) old.1
-    (subst (λ o. hot (page_of (entry_at store k.0)) ≤ hot (page_of o)) is (k.3 j seg.0 (eq-eqb (j / 16) (new.fingerprint % 16) seg.1))) in
+    (subst (λ o. hot (page_of (entry_at store k.0)) ≤ hot (page_of o)) is (k.3 j seg.0 (eq-eqb (j / 16) (new.print % 16) seg.1))) in
     ⊎_elim
     (λ colder. (store, left_out full (λ j e seg is. let r = cold j e seg is in omega arith) refl))
     (λ warm. (set store k.0 (Some new), replaces k.0 old.0 full (segment_is k.0 k.1 k.2) old.1 cold warm refl))
@@ -195,35 +194,35 @@ entered_some hot store new heat =
     (least_of free (λ k. k) 256)
   where
     in_segment : ℕ → Bool
-    in_segment k = eqb (k / 16) (new.fingerprint % 16)
+    in_segment k = eqb (k / 16) (new.print % 16)
 
     free : ℕ → Bool
-    free k = eqb (k / 16) (new.fingerprint % 16) && not (is_some (entry_at store k))
+    free k = eqb (k / 16) (new.print % 16) && not (is_some (entry_at store k))
 
-    segment_is : (k : ℕ) → k < 256 → eqb (k / 16) (new.fingerprint % 16) ≡ true → InSegment new.fingerprint k
-    segment_is k l t = (l, eqb-true (k / 16) (new.fingerprint % 16) t)
+    segment_is : (k : ℕ) → k < 256 → eqb (k / 16) (new.print % 16) ≡ true → InSegment new.print k
+    segment_is k l t = (l, eqb-true (k / 16) (new.print % 16) t)
 
     free_is : (o : Option Entry) → not (is_some o) ≡ true → o ≡ None
     free_is None t = refl
     free_is (Some e) t = absurd (both_ways false refl t)
 
     start : ℕ
-    start = new.fingerprint % 16 * 16 + 0
+    start = new.print % 16 * 16 + 0
 
-    start_small : new.fingerprint % 16 * 16 + 0 < 256
-    start_small = omega (arith, mod_below new.fingerprint 16 (omega arith))
+    start_small : new.print % 16 * 16 + 0 < 256
+    start_small = omega (arith, mod_below new.print 16 (omega arith))
 
-    start_in : eqb ((new.fingerprint % 16 * 16 + 0) / 16) (new.fingerprint % 16) ≡ true
-    start_in = eq-eqb _ _ (div-mul-add (new.fingerprint % 16) 16 0 (omega arith))
+    start_in : eqb ((new.print % 16 * 16 + 0) / 16) (new.print % 16) ≡ true
+    start_in = eq-eqb _ _ (div-mul-add (new.print % 16) 16 0 (omega arith))
 
     held_by : (o : Option Entry) → not (is_some o) ≡ false → (e : Entry) × (o ≡ Some e)
     held_by None t = absurd (both_ways true t refl)
     held_by (Some e) t = (e, refl)
 
-    all_full : ((k : ℕ) → k < 256 → free k ≡ false) → Full store new.fingerprint
+    all_full : ((k : ℕ) → k < 256 → free k ≡ false) → Full store new.print
     all_full none k seg =
         held_by (entry_at store k)
         (⊎_elim
         (λ t. absurd (both_ways (free k) (none k seg.0)
-        (and_from (eqb (k / 16) (new.fingerprint % 16)) (not (is_some (entry_at store k))) (eq-eqb (k / 16) (new.fingerprint % 16) seg.1) t)))
+        (and_from (eqb (k / 16) (new.print % 16)) (not (is_some (entry_at store k))) (eq-eqb (k / 16) (new.print % 16) seg.1) t)))
         (λ t. t) (cases_Bool (not (is_some (entry_at store k)))))

@@ -3,7 +3,6 @@ use Rattle.std.proofs.Common.{◌≡◌, ℕ, zero, suc, ◌+◌, ◌<◌, ◌�
 use Rattle.std.specs.List.{range_with_len}
 use Rattle.std.proofs.lemmas.List.{length-map}
 use Rattle.std.proofs.lemmas.Bool.{cases_Bool, cases_eq, lt-ltb, le-ltb, ltb-true, cond-true, cond-false}
-use Rattle.rules.specs.Stands.{Mid}
 use Rattle.rules.specs.State.{Bytes, State, no_page, flash_pages, host_pages, reach, content, in_use, is_written, live_pages, held, page_map}
 use Rattle.rules.specs.Calls.{Copies}
 use Rattle.rules.specs.Promise.{contents, different}
@@ -12,7 +11,7 @@ use Rattle.rules.proofs.Members.{In}
 use Rattle.rules.proofs.Content.{content_written, written_inside}
 use Rattle.rules.proofs.Live.{live_from, live_find, live_written, reach_named}
 use Rattle.rules.proofs.Cases.{same_test}
-use Rattle.rules.proofs.Moving.{sizes, hosts, some_pages}
+use Rattle.rules.proofs.Moving.{Mid, sizes, hosts, some_pages}
 use Rattle.rules.proofs.Storing.{content_none}
 use Rattle.rules.proofs.Distinct.{stands_in, distinct, stands_in_from, stands_in_find, distinct_le, tally_distinct, different_le, different_all}
 
@@ -53,13 +52,13 @@ in_reached s (m ∷ ns) n (inr i) l =
     (λ t. subst (In (reach s n)) (sym (cond-false (ltb (reach s m) no_page) (reach s m ∷ reached s ns) (reached s ns) t)) (in_reached s ns n i l))
     (cases_Bool (ltb (reach s m) no_page))
 
-module _ (fingerprint : Bytes → ℕ) (s : State) (h : Mid fingerprint s) where
+module _ (print : Bytes → ℕ) (s : State) (h : Mid print s) where
   -- The bytes of a flash page.
   abbrev bytes : ℕ → Bytes
   bytes q = unwrap_or (content s.part q) []
 
   reach_written : (n : ℕ) → n < host_pages s → reach s n < no_page → is_written s.part (reach s n) ≡ true
-  reach_written n l small = live_written s (hosts fingerprint s h) h.agrees (reach s n) small (live_from s n (reach s n) l refl)
+  reach_written n l small = live_written s (hosts print s h) h.agrees (reach s n) small (live_from s n (reach s n) l refl)
 
   contents_reached : (ns : List ℕ) → ((n : ℕ) → In n ns → n < host_pages s) → contents (map (held s) ns) ≡ map bytes (reached s ns)
   contents_reached [] small = refl
@@ -67,7 +66,7 @@ module _ (fingerprint : Bytes → ℕ) (s : State) (h : Mid fingerprint s) where
       let rest = contents_reached ns (λ m i. small m (inr i)) in
       let l = small n (inl refl) in
       ⊎_elim
-      (λ none. let empty : held s n ≡ None = ap (content s.part) none ∙ content_none fingerprint s h in
+      (λ none. let empty : held s n ≡ None = ap (content s.part) none ∙ content_none print s h in
       ap (λ o. contents (o ∷ map (held s) ns)) empty ∙ rest
       ∙ ap (map bytes) (sym (cond-false (ltb (reach s n) no_page) (reach s n ∷ reached s ns) (reached s ns)
       (le-ltb (reach s n) no_page (omega (arith, none))))))
@@ -77,7 +76,7 @@ module _ (fingerprint : Bytes → ℕ) (s : State) (h : Mid fingerprint s) where
       ∙ ap (λ y. y ∷ map bytes (reached s ns)) (sym (ap (λ o. unwrap_or o []) x.1))
       ∙ ap (map bytes) (sym (cond-true (ltb (reach s n) no_page) (reach s n ∷ reached s ns) (reached s ns)
       (lt-ltb (reach s n) no_page k.2))))
-      (reach_named s (hosts fingerprint s h) h.agrees n l)
+      (reach_named s (hosts print s h) h.agrees n l)
 
   abbrev all : List ℕ
   all = range_with_len 0 (host_pages s)
@@ -92,7 +91,7 @@ module _ (fingerprint : Bytes → ℕ) (s : State) (h : Mid fingerprint s) where
   pages_inside q i =
       let r = reached_in s all q i in
       let l = all_small r.0 r.1 in
-      written_inside s.part (some_pages fingerprint s h) q
+      written_inside s.part (some_pages print s h) q
       (ap (is_written s.part) (sym r.2) ∙ reach_written r.0 l (omega (arith, r.2, r.3)))
 
   pub live_reached : (q : ℕ) → q < flash_pages s → in_use s q ≡ stands_in q (reached s all)
@@ -101,7 +100,7 @@ module _ (fingerprint : Bytes → ℕ) (s : State) (h : Mid fingerprint s) where
       (λ live. let n = live_find s q live in
       stands_in_from q (reached s all) (subst (λ v. In v (reached s all)) n.2
       (in_reached s all n.0 (in_counting 0 (host_pages s) n.0 (omega arith) (omega (arith, n.1)))
-      (omega (arith, n.2, l, (sizes fingerprint s h).all)))))
+      (omega (arith, n.2, l, (sizes print s h).all)))))
       (λ t. let r = reached_in s all q (stands_in_find q (reached s all) t) in live_from s r.0 q (all_small r.0 r.1) r.2)
 
   pub live_distinct : live_pages s ≡ distinct (reached s all)

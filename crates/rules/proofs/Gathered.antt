@@ -3,10 +3,10 @@ use Rattle.std.proofs.Common.{◌≡◌, ℕ, true, false, Ok, Err, Result, sym,
 use Rattle.std.proofs.lemmas.Bool.{both_ways}
 use Rattle.rules.specs.declared.refusal.Refusal.{Refusal}
 use Rattle.rules.specs.declared.answer.Answer.{Answer}
-use Rattle.rules.specs.declared.answer.Answer.TheVariants.{Wrote, Page, Trimmed, PagesMoved, PagesDied, Used, Saved}
+use Rattle.rules.specs.declared.answer.Answer.TheVariants.{Wrote, Page, Number, Used}
 use Rattle.rules.specs.State.{Bytes, State, page_map}
-use Rattle.rules.specs.Calls.{Writes, Reads, Trims, Collects, Scans, Asks, Saves}
-use Rattle.rules.specs.Runs.{Call, answer_of, Step}
+use Rattle.rules.specs.Calls.{Writes, Reads, Trims, Collects, Scans, Asks}
+use Rattle.rules.specs.Runs.{Call, Saves, answer_of, Step}
 use Rattle.rules.specs.Runs.Call.{write, read, trim, collect, scan, usage, save}
 use Rattle.rules.specs.Promise.{is_refusal}
 use Rattle.rules.specs.Theorems.{AlwaysStands, AnswersAsPageMap, KeepsPages, HasWhatRulesNeed}
@@ -18,10 +18,10 @@ use Rattle.rules.proofs.Moving.{mid}
 use Rattle.rules.proofs.Readying.{ready_after}
 
 pub always_stands : AlwaysStands
-always_stands = record { at_first = made_stands; afterwards = λ fingerprint s c a t h step. (step_outcome fingerprint s c a t h step).standing }
+always_stands = record { at_first = made_stands; afterwards = λ print s c a t h step. (step_outcome print s c a t h step).standing }
 
 pub answers_as_page_map : AnswersAsPageMap
-answers_as_page_map fingerprint s c a t h step = (step_outcome fingerprint s c a t h step).plain
+answers_as_page_map print s c a t h step = (step_outcome print s c a t h step).plain
 
 -- An answer that is a refusal comes of a refused result.
 refused_result : {X : Type 0} (shown : X → Answer) (r : Result X Refusal) (a : Answer) (T : Result X Refusal → Type 0)
@@ -29,22 +29,20 @@ refused_result : {X : Type 0} (shown : X → Answer) (r : Result X Refusal) (a :
 refused_result shown (Ok x) a T never is bad rule = absurd (both_ways (is_refusal (shown x)) (never x) (ap is_refusal (sym is) ∙ bad))
 refused_result shown (Err e) a T never is bad rule = (e, rule)
 
-unchanged : (fingerprint : Bytes → ℕ) (s : State) (c : Call) (a : Answer) (t : State) → Step fingerprint s c a t → is_refusal a ≡ true → t ≡ s
-unchanged fingerprint s (write n x) a t (r, is, rule) bad = (refused_result Wrote r a (λ y. Writes fingerprint s n x y t) (λ w. refl) is bad rule).1.0
-unchanged fingerprint s (read n len) a t (r, before, after, long, is, rule) bad =
-    (refused_result (λ u. Page after) r a (λ y. Reads s n before y t after) (λ w. refl) is bad rule).1.0
-unchanged fingerprint s (trim n) a t (r, is, rule) bad = (refused_result Trimmed r a (λ y. Trims s n y t) (λ w. refl) is bad rule).1.0
-unchanged fingerprint s collect a t (r, is, rule) bad = (refused_result PagesMoved r a (λ y. Collects s y t) (λ w. refl) is bad rule).1.0
-unchanged fingerprint s scan a t (r, is, rule) bad = absurd (refused_result PagesDied r a (λ y. Scans s y t) (λ w. refl) is bad rule).1
-unchanged fingerprint s usage a t (r, is, rule) bad = absurd (refused_result Used r a (λ y. Asks s y t) (λ w. refl) is bad rule).1
-unchanged fingerprint s (save len) a t (r, before, after, long, is, rule) bad =
-    (refused_result Saved r a (λ y. Saves s before y t after) (λ w. refl) is bad rule).1.0
+unchanged : (print : Bytes → ℕ) (s : State) (c : Call) (a : Answer) (t : State) → Step print s c a t → is_refusal a ≡ true → t ≡ s
+unchanged print s (write n x) a t (r, is, rule) bad = (refused_result Wrote r a (λ y. Writes print s n x y t) (λ w. refl) is bad rule).1.0
+unchanged print s (read n len) a t (r, is, rule) bad = (refused_result Page r a (λ y. Reads s n len y t) (λ w. refl) is bad rule).1.0
+unchanged print s (trim n) a t (r, is, rule) bad = (refused_result Number r a (λ y. Trims s n y t) (λ w. refl) is bad rule).1.0
+unchanged print s collect a t (r, is, rule) bad = (refused_result Number r a (λ y. Collects s y t) (λ w. refl) is bad rule).1.0
+unchanged print s scan a t (r, is, rule) bad = absurd (refused_result Number r a (λ y. Scans s y t) (λ w. refl) is bad rule).1
+unchanged print s usage a t (r, is, rule) bad = absurd (refused_result Used r a (λ y. Asks s y t) (λ w. refl) is bad rule).1
+unchanged print s (save len) a t (r, is, rule) bad = (refused_result Number r a (λ y. Saves s len y t) (λ w. refl) is bad rule).1.0
 
 pub keeps_pages : KeepsPages
 keeps_pages = record {
   refused = unchanged;
-  others = λ fingerprint s c a t h step off. other_call c a (page_map s) (page_map t) off (step_outcome fingerprint s c a t h step).plain;
+  others = λ print s c a t h step off. other_call c a (page_map s) (page_map t) off (step_outcome print s c a t h step).plain;
 }
 
 pub has_what_rules_need : HasWhatRulesNeed
-has_what_rules_need = record { dead_page = dead_page; free_entry = λ fingerprint s q h. free_entry fingerprint s q (mid fingerprint s h); ready_after = ready_after }
+has_what_rules_need = record { dead_page = dead_page; free_entry = λ print s q h. free_entry print s q (mid print s h); ready_after = ready_after }

@@ -3,8 +3,7 @@ use Rattle.std.proofs.Common.{◌≡◌, ℕ, ◌-◌, ◌<◌, ◌≤◌, true,
 use mathlib.Core.Path.{fun_ext}
 use Rattle.std.proofs.lemmas.List.{length-set, length-map, get_or_past, get_or-map}
 use Rattle.std.proofs.lemmas.Bool.{cases_eq, cases_lt, cases_Bool, eq-eqb, ne_eqb, eqb-true, lt-ltb, le-ltb, ltb-true, cond-true, cond-false, both_ways}
-use Rattle.rules.specs.declared.entry.Entry.{Entry}
-use Rattle.rules.specs.State.{State, no_page, host_pages, names, leads, reach, in_use, is_written}
+use Rattle.rules.specs.State.{Entry, State, no_page, host_pages, names, leads, reach, in_use, is_written}
 use Rattle.rules.specs.Tables.{without, dies, with_word, with_shared, is_held, let_go, repoint}
 use Rattle.rules.specs.Store.{entry_at}
 use Rattle.rules.specs.Making.{Agree, Agrees}

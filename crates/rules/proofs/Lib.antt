@@ -28,4 +28,3 @@ pub mod Gathered
 pub mod Worked
 pub mod Choosing
 pub mod Answered
-mod Makings

@@ -3,8 +3,7 @@ use Rattle.std.proofs.Common.{◌≡◌, ℕ, ◌+◌, ◌-◌, ◌*◌, ◌/◌
 use Rattle.std.proofs.lemmas.List.{length-map, length-replicate, get_or-replicate, get_or_past, get_or-map}
 use Rattle.std.proofs.lemmas.Bool.{cases_eq, cases_lt, eq-eqb, ne_eqb, cond-true, cond-false}
 use Rattle.flash.specs.Part.{Block, Part, SoundBlock, Sound, no_block, written, erases}
-use Rattle.rules.specs.declared.entry.Entry.{Entry}
-use Rattle.rules.specs.State.{Bytes, State, no_page, block_count, per_block, flash_pages, host_pages, names, content, in_use, hotness}
+use Rattle.rules.specs.State.{Bytes, Entry, State, no_page, block_count, per_block, flash_pages, host_pages, names, content, in_use, hotness}
 use Rattle.rules.specs.Store.{entry_at, Entered}
 use Rattle.rules.specs.Tables.{with_store}
 use Rattle.rules.specs.Calls.{NoneOffered, below}
@@ -26,7 +25,7 @@ get_d_all n k x =
 pub empty_store : (n k : ℕ) (e : Entry) → entry_at (replicate n None) k ≡ Some e → ⊥
 empty_store n k e is = none_some (entry_at (replicate n None) k) e (get_d_all n k None) is
 
-module _ (fingerprint : Bytes → ℕ) (p : Part) (host : ℕ) (sound : Sound p) (accepts : FormatAccepts p host) where
+module _ (print : Bytes → ℕ) (p : Part) (host : ℕ) (sound : Sound p) (accepts : FormatAccepts p host) where
   abbrev s : State
   s = formatted p host
 
@@ -73,7 +72,7 @@ module _ (fingerprint : Bytes → ℕ) (p : Part) (host : ℕ) (sound : Sound p)
   sizes_after : SizesFit s.part (host_pages s)
   sizes_after = ap (λ b. size_refusal b p.per_block (host_pages s)) blocks_same ∙ ap (size_refusal (length p.blocks) p.per_block) host_same ∙ accepts.0
 
-  pub formatted_stands : Stands fingerprint s
+  pub formatted_stands : Stands print s
   formatted_stands = record {
     sizes = sizes_after;
     entries = length-replicate (length p.blocks * p.per_block) no_page ∙ ap (λ b. b * p.per_block) (sym blocks_same);
@@ -97,48 +96,48 @@ module _ (fingerprint : Bytes → ℕ) (p : Part) (host : ℕ) (sound : Sound p)
   }
 
 -- A store that is being refilled stands at every step.
-record Filled (fingerprint : Bytes → ℕ) (s : State) (store : List (Option Entry)) : Type 0 where
+record Filled (print : Bytes → ℕ) (s : State) (store : List (Option Entry)) : Type 0 where
   places : length store ≡ 256
-  each : (k : ℕ) (e : Entry) → entry_at store k ≡ Some e → EntryStands fingerprint s k e
+  each : (k : ℕ) (e : Entry) → entry_at store k ≡ Some e → EntryStands print s k e
   apart : (j k : ℕ) (d e : Entry) → entry_at store j ≡ Some d → entry_at store k ≡ Some e
       → content s.part d.page ≡ content s.part e.page → j ≡ k
 
-refilled_one : (fingerprint : Bytes → ℕ) (s : State) (q : ℕ) (x : Bytes) (store next : List (Option Entry)) → q < flash_pages s → in_use s q ≡ true
-    → content s.part q ≡ Some x → Filled fingerprint s store
-    → NoneOffered fingerprint (with_store s store) x
-    → Entered (hotness s) store (record { fingerprint = fingerprint x; page = q }) (hotness s q) next → Filled fingerprint s next
-refilled_one fingerprint s q x store next inside live has f none entered = record {
+refilled_one : (print : Bytes → ℕ) (s : State) (q : ℕ) (x : Bytes) (store next : List (Option Entry)) → q < flash_pages s → in_use s q ≡ true
+    → content s.part q ≡ Some x → Filled print s store
+    → NoneOffered print (with_store s store) x
+    → Entered (hotness s) store (record { print = print x; page = q }) (hotness s q) next → Filled print s next
+refilled_one print s q x store next inside live has f none entered = record {
   places = entered_length (hotness s) store _ (hotness s q) next entered ∙ f.places;
   each = λ k e is. ⊎_elim
       (λ was. f.each k e (ap (λ (y : List (Option Entry)). entry_at y k) (sym was) ∙ is))
       (λ p. ⊎_elim
-      (λ new. subst (EntryStands fingerprint s k) (sym new.1)
+      (λ new. subst (EntryStands print s k) (sym new.1)
       (record {
         segment = ap (λ i. i / 16) new.0 ∙ p.1.1;
         inside = inside;
         live = live;
-        right = λ y y_has. ap fingerprint (some_same (Some x) x y refl (sym has ∙ y_has));
+        right = λ y y_has. ap print (some_same (Some x) x y refl (sym has ∙ y_has));
       }))
       (λ old. f.each k e old.1)
-      (entered_entry store next (record { fingerprint = fingerprint x; page = q }) p.0 (omega (arith, p.1.0, f.places)) p.2 k e is))
-      (entered_cases (hotness s) store (record { fingerprint = fingerprint x; page = q }) (hotness s q) next entered);
-  apart = entered_apart (content s.part) fingerprint (hotness s) store next x q (hotness s q) entered f.places has
+      (entered_entry store next (record { print = print x; page = q }) p.0 (omega (arith, p.1.0, f.places)) p.2 k e is))
+      (entered_cases (hotness s) store (record { print = print x; page = q }) (hotness s q) next entered);
+  apart = entered_apart (content s.part) print (hotness s) store next x q (hotness s q) entered f.places has
       (λ k e is y y_has. (f.each k e is).right y y_has) (λ k p is p_has. none p (k, is, p_has)) f.apart;
 }
 
-refilled_stands : (fingerprint : Bytes → ℕ) (s : State) (qs : List ℕ) (store after : List (Option Entry))
-    → ((q : ℕ) → In q qs → (q < flash_pages s) × (in_use s q ≡ true)) → Filled fingerprint s store → Refilled fingerprint s qs store after → Filled fingerprint s after
-refilled_stands fingerprint s [] store after live f is = subst (Filled fingerprint s) (sym is) f
-refilled_stands fingerprint s (q ∷ qs) store after live f (x, next, has, how, rest) =
+refilled_stands : (print : Bytes → ℕ) (s : State) (qs : List ℕ) (store after : List (Option Entry))
+    → ((q : ℕ) → In q qs → (q < flash_pages s) × (in_use s q ≡ true)) → Filled print s store → Refilled print s qs store after → Filled print s after
+refilled_stands print s [] store after live f is = subst (Filled print s) (sym is) f
+refilled_stands print s (q ∷ qs) store after live f (x, next, has, how, rest) =
     let here = live q (inl refl) in
-    refilled_stands fingerprint s qs next after (λ r i. live r (inr i))
-    (⊎_elim (λ skip. subst (Filled fingerprint s) (sym skip.1) f)
-    (λ new. refilled_one fingerprint s q x store next here.0 here.1 has f new.0 new.1) how)
+    refilled_stands print s qs next after (λ r i. live r (inr i))
+    (⊎_elim (λ skip. subst (Filled print s) (sym skip.1) f)
+    (λ new. refilled_one print s q x store next here.0 here.1 has f new.0 new.1) how)
     rest
 
-pub loaded_stands : (fingerprint : Bytes → ℕ) (s : State) → Sound s.part → Loaded fingerprint s → Stands fingerprint s
-loaded_stands fingerprint s sound l =
-    let f = refilled_stands fingerprint s (below (in_use s) (flash_pages s)) (replicate 256 None) s.store
+pub loaded_stands : (print : Bytes → ℕ) (s : State) → Sound s.part → Loaded print s → Stands print s
+loaded_stands print s sound l =
+    let f = refilled_stands print s (below (in_use s) (flash_pages s)) (replicate 256 None) s.store
     (λ q i. in_below (in_use s) (flash_pages s) q i)
     (record { places = length-replicate {A = Option Entry} 256 None; each = λ k e is. absurd (empty_store 256 k e is); apart = λ j k d e j_is k_is same. absurd (empty_store 256 j d j_is) })
     l.filled in
@@ -151,6 +150,6 @@ loaded_stands fingerprint s sound l =
       stores = record { places = f.places; each = f.each; apart = f.apart };
     }
 
-pub made_stands : (fingerprint : Bytes → ℕ) (s : State) → Made fingerprint s → Stands fingerprint s
-made_stands fingerprint s (inl (p, host, sound, (accepts, is))) = subst (Stands fingerprint) (sym is) (formatted_stands fingerprint p host sound accepts)
-made_stands fingerprint s (inr (p, image, sound, (is, words, shared, l))) = loaded_stands fingerprint s (subst Sound (sym is) sound) l
+pub made_stands : (print : Bytes → ℕ) (s : State) → Made print s → Stands print s
+made_stands print s (inl (p, host, sound, (accepts, is))) = subst (Stands print) (sym is) (formatted_stands print p host sound accepts)
+made_stands print s (inr (sound, l)) = loaded_stands print s sound l

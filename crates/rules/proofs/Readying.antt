@@ -52,8 +52,8 @@ moves_fill v c (k ∷ ks) s u in_c clean part room (b, takes, rest) =
     (omega (arith, here)) rest in
     (omega (arith, r.0, here), r.1 ∙ same_blocks, r.2, λ d ne. r.3 d ne ∙ others d ne)
 
-pub ready_after : (fingerprint : Bytes → ℕ) (s : State) (v : ℕ) (t : State) → Stands fingerprint s → (Ready s → ⊥) → Victim s v → Collected s v t → Ready t
-ready_after fingerprint s v t h unready victim (u, moves, is) =
+pub ready_after : (print : Bytes → ℕ) (s : State) (v : ℕ) (t : State) → Stands print s → (Ready s → ⊥) → Victim s v → Collected s v t → Ready t
+ready_after print s v t h unready victim (u, moves, is) =
     let spare = h.blocks.spare in
     let c = spare.0 in
     let none : HasPartWritten s → ⊥ = λ p. unready (inl p) in

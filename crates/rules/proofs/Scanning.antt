@@ -3,7 +3,6 @@ use Rattle.std.proofs.Common.{◌≡◌, ℕ, zero, suc, ◌+◌, ◌<◌, false
 use mathlib.Core.Path.{fun_ext}
 use Rattle.std.proofs.lemmas.List.{length-map}
 use Rattle.std.proofs.lemmas.Bool.{cases_eq, eq-eqb, ne_eqb}
-use Rattle.rules.specs.Stands.{Mid}
 use Rattle.rules.specs.State.{Bytes, State, no_page, flash_pages, host_pages, names, leads, reach, content, in_use, is_written, live_pages, held}
 use Rattle.rules.specs.Tables.{without, EntryFor, lifted, merged}
 use Rattle.rules.specs.Calls.{Copies, Merges}
@@ -15,10 +14,10 @@ use Rattle.rules.proofs.Crossing.{name_mapped}
 use Rattle.rules.proofs.Live.{live_from, live_find, live_not}
 use Rattle.rules.proofs.LetGo.{entry_left}
 use Rattle.rules.proofs.Cases.{same_test}
-use Rattle.rules.proofs.Moving.{sizes, hosts, fits_same}
+use Rattle.rules.proofs.Moving.{Mid, sizes, hosts, fits_same}
 use Rattle.rules.proofs.Sharing.{lifted_mid, lifted_entry, lifted_reach, lifted_hosts}
 
-module _ (fingerprint : Bytes → ℕ) (s : State) (i j e : ℕ) (h : Mid fingerprint s) (apart : i < j) (copies : Copies s i j) (entry : EntryFor s i e) where
+module _ (print : Bytes → ℕ) (s : State) (i j e : ℕ) (h : Mid print s) (apart : i < j) (copies : Copies s i j) (entry : EntryFor s i e) where
   abbrev u : State
   u = lifted s i e
 
@@ -29,16 +28,16 @@ module _ (fingerprint : Bytes → ℕ) (s : State) (i j e : ℕ) (h : Mid finger
   k = 4096 + e
 
   i_small : i < no_page
-  i_small = omega (arith, copies.0, (sizes fingerprint s h).all)
+  i_small = omega (arith, copies.0, (sizes print s h).all)
 
   j_small : j < no_page
-  j_small = omega (arith, copies.1, (sizes fingerprint s h).all)
+  j_small = omega (arith, copies.1, (sizes print s h).all)
 
-  u_mid : Mid fingerprint u
-  u_mid = lifted_mid fingerprint s i e h copies.2 i_small entry
+  u_mid : Mid print u
+  u_mid = lifted_mid print s i e h copies.2 i_small entry
 
   u_entry : names u k ≡ i
-  u_entry = lifted_entry fingerprint s i e h copies.2 i_small entry
+  u_entry = lifted_entry print s i e h copies.2 i_small entry
 
   u_apart : names u k ≡ j → ⊥
   u_apart is = omega (arith, u_entry, is)
@@ -50,13 +49,13 @@ module _ (fingerprint : Bytes → ℕ) (s : State) (i j e : ℕ) (h : Mid finger
       (⊎_elim (λ c. absurd (omega (arith, c.0, j_small))) (λ c. c.1) (merged_entry_cases j no_page)))
 
   t_hosts : host_pages t ≡ host_pages s
-  t_hosts = length-map u.words (merged_word (names u) j k) ∙ lifted_hosts fingerprint s i e h copies.2 i_small entry
+  t_hosts = length-map u.words (merged_word (names u) j k) ∙ lifted_hosts print s i e h copies.2 i_small entry
 
   t_agrees : Agrees t
   t_agrees =
       subst (λ f. Agree f (is_written s.part) (host_pages t)) (sym t_names)
       (subst (λ n. Agree (merged_names (names u) j k) (is_written s.part) n) (sym (length-map u.words (merged_word (names u) j k)))
-      (merge_agrees (names u) (is_written s.part) (host_pages u) j k (hosts fingerprint u u_mid) u_mid.agrees (omega arith)
+      (merge_agrees (names u) (is_written s.part) (host_pages u) j k (hosts print u u_mid) u_mid.agrees (omega arith)
       (omega (arith, u_entry, i_small)) u_apart))
 
   -- A word that reached the copy reaches the page it was merged into, and every other word what it reached.
@@ -64,8 +63,8 @@ module _ (fingerprint : Bytes → ℕ) (s : State) (i j e : ℕ) (h : Mid finger
       → ((reach s n ≡ j) × (reach t n ≡ i)) ⊎ ((reach s n ≡ j → ⊥) × (reach t n ≡ reach s n))
   merged_reach n l =
       let is : reach t n ≡ cond (eqb (reach u n) j) (names u k) (reach u n) =
-      ap (λ (f : ℕ → ℕ). leads f (f n)) t_names ∙ goes_merged (names u) j k n (omega arith) u_apart (omega (arith, l, hosts fingerprint s h)) in
-      let same = lifted_reach fingerprint s i e h copies.2 i_small entry n l in
+      ap (λ (f : ℕ → ℕ). leads f (f n)) t_names ∙ goes_merged (names u) j k n (omega arith) u_apart (omega (arith, l, hosts print s h)) in
+      let same = lifted_reach print s i e h copies.2 i_small entry n l in
       ⊎_elim
       (λ here. inl (here, is ∙ ap (λ b. cond b (names u k) (reach u n)) (eq-eqb (reach u n) j (same ∙ here)) ∙ u_entry))
       (λ other. inr (other, is ∙ ap (λ b. cond b (names u k) (reach u n)) (ne_eqb (reach u n) j (λ r. other (sym same ∙ r))) ∙ same))
@@ -100,7 +99,7 @@ module _ (fingerprint : Bytes → ℕ) (s : State) (i j e : ℕ) (h : Mid finger
         one_false (in_use t j) copy_dead,
       )
 
-  pub merged_mid : Mid fingerprint t
+  pub merged_mid : Mid print t
   merged_mid = record {
     fits = fits_same s t refl refl t_hosts h.fits;
     entries = length-map u.shared (merged_entry j) ∙ u_mid.entries;
@@ -120,27 +119,27 @@ module _ (fingerprint : Bytes → ℕ) (s : State) (i j e : ℕ) (h : Mid finger
   merged_hosts = t_hosts
 
 -- What a scan keeps and does: at its end no two pages in use have equal content.
-pub record Scanned (fingerprint : Bytes → ℕ) (s : State) (died : ℕ) (t : State) : Type 0 where
-  pub mids : Mid fingerprint t
+pub record Scanned (print : Bytes → ℕ) (s : State) (died : ℕ) (t : State) : Type 0 where
+  pub mids : Mid print t
   pub same_part : t.part ≡ s.part
   pub same_hosts : host_pages t ≡ host_pages s
   pub same_held : (n : ℕ) → n < host_pages s → held t n ≡ held s n
   pub fewer : live_pages t + died ≡ live_pages s
   pub no_copies : (i j : ℕ) → Copies t i j → i ≡ j
 
-pub merges_scanned : (fingerprint : Bytes → ℕ) (died : ℕ) (s t : State) → Mid fingerprint s → Merges died s t → Scanned fingerprint s died t
-merges_scanned fingerprint zero s t h (is, none) =
-    subst (Scanned fingerprint s 0) (sym is)
+pub merges_scanned : (print : Bytes → ℕ) (died : ℕ) (s t : State) → Mid print s → Merges died s t → Scanned print s died t
+merges_scanned print zero s t h (is, none) =
+    subst (Scanned print s 0) (sym is)
     (record { mids = h; same_part = refl; same_hosts = refl; same_held = λ n l. refl; fewer = omega arith; no_copies = none })
-merges_scanned fingerprint (suc died) s t h (i, j, e, apart, copies, lowest, entry, rest) =
-    let m = merged_mid fingerprint s i j e h apart copies entry in
-    let r = merges_scanned fingerprint died (merged s i j e) t m rest in
-    let hosts_same = merged_hosts fingerprint s i j e h apart copies entry in
+merges_scanned print (suc died) s t h (i, j, e, apart, copies, lowest, entry, rest) =
+    let m = merged_mid print s i j e h apart copies entry in
+    let r = merges_scanned print died (merged s i j e) t m rest in
+    let hosts_same = merged_hosts print s i j e h apart copies entry in
     record {
       mids = r.mids;
       same_part = r.same_part;
       same_hosts = r.same_hosts ∙ hosts_same;
-      same_held = λ n l. r.same_held n (subst (λ c. n < c) (sym hosts_same) l) ∙ merged_held fingerprint s i j e h apart copies entry n l;
-      fewer = omega (arith, r.fewer, merged_pages fingerprint s i j e h apart copies entry);
+      same_held = λ n l. r.same_held n (subst (λ c. n < c) (sym hosts_same) l) ∙ merged_held print s i j e h apart copies entry n l;
+      fewer = omega (arith, r.fewer, merged_pages print s i j e h apart copies entry);
       no_copies = r.no_copies;
     }

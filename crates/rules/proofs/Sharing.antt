@@ -3,7 +3,6 @@ use Rattle.std.proofs.Common.{◌≡◌, ℕ, ◌+◌, ◌-◌, ◌*◌, ◌<◌
 use mathlib.Core.Path.{fun_ext}
 use Rattle.std.proofs.lemmas.List.{length-set, length-map}
 use Rattle.flash.specs.Part.{Part, Sound}
-use Rattle.rules.specs.Stands.{Single, Mid}
 use Rattle.rules.specs.State.{Bytes, State, no_page, host_pages, name, names, leads, reach, content, in_use, is_written, held}
 use Rattle.rules.specs.Tables.{EntryFor, lifted, repoint}
 use Rattle.rules.specs.Making.{Agree, Agrees}
@@ -13,7 +12,8 @@ use Rattle.rules.proofs.Reaches.{goes_lifted}
 use Rattle.rules.proofs.Crossing.{name_set_entry, name_mapped_words}
 use Rattle.rules.proofs.Live.{live_find, live_same}
 use Rattle.rules.proofs.LetGo.{repoint_agrees, reach_here, reach_other, repoint_part, repoint_hosts, repoint_shared, repoint_places, repoint_was, repoint_entry}
-use Rattle.rules.proofs.Moving.{sizes, hosts, fits_same}
+use Rattle.rules.proofs.Blocks.{Single}
+use Rattle.rules.proofs.Moving.{Mid, sizes, hosts, fits_same}
 
 -- A word that named q names entry k instead.
 abbrev pub redirect : ℕ → ℕ → ℕ → ℕ
@@ -22,7 +22,7 @@ redirect q k w = cond (eqb w q) k w
 pub redirect_cases : (q k w : ℕ) → ((w ≡ q) × (redirect q k w ≡ k)) ⊎ ((w ≡ q → ⊥) × (redirect q k w ≡ w))
 redirect_cases q k w = by_eq w q k w
 
-module _ (fingerprint : Bytes → ℕ) (s : State) (q e : ℕ) (h : Mid fingerprint s) (live : in_use s q ≡ true) (small : q < no_page)
+module _ (print : Bytes → ℕ) (s : State) (q e : ℕ) (h : Mid print s) (live : in_use s q ≡ true) (small : q < no_page)
     (entry : EntryFor s q e) where
   abbrev k : ℕ
   k = 4096 + e
@@ -86,7 +86,7 @@ module _ (fingerprint : Bytes → ℕ) (s : State) (q e : ℕ) (h : Mid fingerpr
           (h.agrees.once n j (omega (arith, direct, small)) (direct ∙ sym r.0)) (put_same (names s) n k)))
           (λ r. r.1 ∙ sym (put_other (names s) n k j (λ e. r.0 (ap (names s) e ∙ direct))))
           (redirect_cases q k (names s j)))
-          (λ high. high.1 ∙ sym (put_other (names s) n k j (λ e. absurd (omega (arith, high.0, hosts fingerprint s h)))))
+          (λ high. high.1 ∙ sym (put_other (names s) n k j (λ e. absurd (omega (arith, high.0, hosts print s h)))))
           (way j) ∙ sym (put_other (put (names s) n k) k q j c.0))
           (put_cases redirected k q j)
 
@@ -102,7 +102,7 @@ module _ (fingerprint : Bytes → ℕ) (s : State) (q e : ℕ) (h : Mid fingerpr
       (⊎_elim
       (λ same. subst (λ f. Agree f (is_written s.part) (host_pages s)) (sym same) h.agrees)
       (λ d. subst (λ f. Agree f (is_written s.part) (host_pages s)) (sym (d.4 ∙ ap (put (put (names s) d.0 k) k) (sym d.2)))
-      (lift_put (names s) (is_written s.part) (host_pages s) (hosts fingerprint s h) h.agrees d.0 k d.1
+      (lift_put (names s) (is_written s.part) (host_pages s) (hosts print s h) h.agrees d.0 k d.1
       (omega (arith, d.2, small)) (omega arith) d.3))
       u_is)
 
@@ -111,14 +111,14 @@ module _ (fingerprint : Bytes → ℕ) (s : State) (q e : ℕ) (h : Mid fingerpr
       ⊎_elim
       (λ same. ap (λ (f : ℕ → ℕ). leads f (f n)) same)
       (λ d. ap (λ (f : ℕ → ℕ). leads f (f n)) (d.4 ∙ ap (put (put (names s) d.0 k) k) (sym d.2))
-      ∙ goes_lifted (names s) (is_written s.part) (host_pages s) d.0 k n h.agrees (omega (arith, d.1, hosts fingerprint s h)) (omega arith)
-      (omega (arith, l, hosts fingerprint s h)) (omega (arith, d.2, small)) d.3)
+      ∙ goes_lifted (names s) (is_written s.part) (host_pages s) d.0 k n h.agrees (omega (arith, d.1, hosts print s h)) (omega arith)
+      (omega (arith, l, hosts print s h)) (omega (arith, d.2, small)) d.3)
       u_is
 
   pub lifted_live : (r : ℕ) → in_use u r ≡ in_use s r
   lifted_live r = live_same s u u_hosts lifted_reach r
 
-  pub lifted_mid : Mid fingerprint u
+  pub lifted_mid : Mid print u
   lifted_mid = record {
     fits = fits_same s u refl refl u_hosts h.fits;
     entries = length-set s.shared e q ∙ h.entries;
@@ -137,13 +137,13 @@ module _ (fingerprint : Bytes → ℕ) (s : State) (q e : ℕ) (h : Mid fingerpr
   lifted_hosts = u_hosts
 
 -- A word is pointed elsewhere, and its old reference let go.
-module _ (fingerprint : Bytes → ℕ) (v : State) (n w : ℕ) (h : Mid fingerprint v) (in_host : n < host_pages v)
+module _ (print : Bytes → ℕ) (v : State) (n w : ℕ) (h : Mid print v) (in_host : n < host_pages v)
     (fit : Fit (names v) (is_written v.part) w) where
   abbrev t : State
   t = repoint v n w
 
   few : host_pages v ≤ 4096
-  few = hosts fingerprint v h
+  few = hosts print v h
 
   t_part : t.part ≡ v.part
   t_part = repoint_part v n w few in_host h.agrees fit
@@ -151,7 +151,7 @@ module _ (fingerprint : Bytes → ℕ) (v : State) (n w : ℕ) (h : Mid fingerpr
   t_hosts : host_pages t ≡ host_pages v
   t_hosts = repoint_hosts v n w few in_host h.agrees fit
 
-  pub pointed_mid : Mid fingerprint t
+  pub pointed_mid : Mid print t
   pointed_mid = record {
     fits = fits_same v t (ap (λ (y : Part). length y.blocks) t_part) (ap (λ (y : Part). y.per_block) t_part) t_hosts h.fits;
     entries = repoint_shared v n w few in_host h.agrees fit ∙ h.entries ∙ ap (λ (y : Part). length y.blocks * y.per_block) (sym t_part);
@@ -164,7 +164,7 @@ module _ (fingerprint : Bytes → ℕ) (v : State) (n w : ℕ) (h : Mid fingerpr
           record {
             segment = st.segment;
             inside = subst (λ (y : Part). d.page < length y.blocks * y.per_block) (sym t_part) st.inside;
-            live = (repoint_entry v n w few in_host h.agrees fit k d is (omega (arith, st.inside, (sizes fingerprint v h).all)) (inl st.live)).1;
+            live = (repoint_entry v n w few in_host h.agrees fit k d is (omega (arith, st.inside, (sizes print v h).all)) (inl st.live)).1;
             right = λ x has. st.right x (ap (λ (y : Part). content y d.page) (sym t_part) ∙ has);
           };
       apart = λ j k c d j_is k_is same.

@@ -8,19 +8,19 @@ use Rattle.rules.specs.declared.kind.Kind.TheVariants.{Stored, Shared, Unchanged
 use Rattle.rules.specs.declared.answer.Written.{Written}
 use Rattle.rules.specs.declared.answer.Usage.{Usage}
 use Rattle.rules.specs.declared.answer.Answer.{Answer}
-use Rattle.rules.specs.declared.answer.Answer.TheVariants.{Refused, Wrote, Page, Trimmed, PagesMoved, PagesDied, Used, Saved}
+use Rattle.rules.specs.declared.answer.Answer.TheVariants.{Refused, Wrote, Page, Number, Used}
 use Rattle.rules.specs.Numbers.{refusal_number}
 use Rattle.rules.specs.State.{Bytes, State, no_page, host_pages, names, leads, content, in_use, is_written, live_pages, held, page_map}
 use Rattle.rules.specs.Tables.{next_page, lifted, repoint}
-use Rattle.rules.specs.Calls.{Ready, Readied, Stores, WritesAs, Writes, Reads, Trims, Collects, Scans, Asks, Saves, NoneOffered, NoHostPage, WrongLength, EmptyPage, NoRoom}
-use Rattle.rules.specs.Stands.{Stands, Mid}
-use Rattle.rules.specs.Runs.{Call, answer_of, Step}
+use Rattle.rules.specs.Calls.{Ready, Readied, Stores, WritesAs, Writes, Reads, Trims, Collects, Scans, Asks, NoneOffered, NoHostPage, WrongLength, EmptyPage, NoRoom}
+use Rattle.rules.specs.Stands.{Stands}
+use Rattle.rules.specs.Runs.{Call, Saves, answer_of, Step}
 use Rattle.rules.specs.Runs.Call.{write, read, trim, collect, scan, usage, save}
 use Rattle.rules.specs.Promise.{seen, stored_by, moved_by, settled_by, contents, different}
 use Rattle.rules.specs.Promise.Seen.{refused, number}
 use Rattle.rules.specs.PlainMap.{shown, plain_answer, Plain}
 use Rattle.rules.proofs.Namers.{Fit, leads_cases}
-use Rattle.rules.proofs.Moving.{mid, stands, sizes}
+use Rattle.rules.proofs.Moving.{Mid, mid, stands, sizes}
 use Rattle.rules.proofs.Collecting.{collected_keeps}
 use Rattle.rules.proofs.Storing.{content_none, stored_stands, stored_hosts, stored_held, stored_other, stored_wear}
 use Rattle.rules.proofs.Sharing.{lifted_mid, lifted_entry, lifted_reach, lifted_hosts, pointed_mid, pointed_part, pointed_hosts, pointed_held, pointed_other}
@@ -34,18 +34,18 @@ abbrev pub Exact : State → Type 0
 Exact s = live_pages s ≡ different (contents (page_map s))
 
 -- What every call keeps and does.
-pub record Outcome (fingerprint : Bytes → ℕ) (s : State) (c : Call) (a : Answer) (t : State) : Type 0 where
-  pub standing : Stands fingerprint t
+pub record Outcome (print : Bytes → ℕ) (s : State) (c : Call) (a : Answer) (t : State) : Type 0 where
+  pub standing : Stands print t
   pub plain : Plain (page_map s) c a (page_map t)
-  pub worn : wear t.part ≡ wear s.part + (stored_by a + moved_by a)
+  pub worn : wear t.part ≡ wear s.part + (stored_by c a + moved_by c a)
   pub exact : (so : Bool) → (so ≡ true → Exact s) → settled_by so c a ≡ true → Exact t
 
 -- A call that changes nothing.
-idle : (fingerprint : Bytes → ℕ) (s : State) (c : Call) (a : Answer) (t : State) → Stands fingerprint s → t ≡ s
-    → Plain (page_map s) c a (page_map s) → stored_by a + moved_by a ≡ 0 → ((so : Bool) → settled_by so c a ≡ true → so ≡ true)
-    → Outcome fingerprint s c a t
-idle fingerprint s c a t h is plain none still =
-    subst (Outcome fingerprint s c a) (sym is)
+idle : (print : Bytes → ℕ) (s : State) (c : Call) (a : Answer) (t : State) → Stands print s → t ≡ s
+    → Plain (page_map s) c a (page_map s) → stored_by c a + moved_by c a ≡ 0 → ((so : Bool) → settled_by so c a ≡ true → so ≡ true)
+    → Outcome print s c a t
+idle print s c a t h is plain none still =
+    subst (Outcome print s c a) (sym is)
     (record { standing = h; plain = plain; worn = omega (arith, none); exact = λ so was now. was (still so now) })
 
 -- The tests of the plain page map on a host page that is there and one that is not.
@@ -60,12 +60,12 @@ module _ (s : State) (n : ℕ) where
 refused_as : (e : Refusal) (k : ℕ) → refusal_number e ≡ k → seen (Refused e) ≡ refused k
 refused_as e k is = ap refused is
 
-write_refused : (fingerprint : Bytes → ℕ) (s : State) (n : ℕ) (x : Bytes) (e : Refusal) (t : State) → Stands fingerprint s
-    → Writes fingerprint s n x (Err e) t → Outcome fingerprint s (write n x) (Refused e) t
-write_refused fingerprint s n x e t h (is, why) =
-    idle fingerprint s (write n x) (Refused e) t h is (plain why) refl (λ so now. now)
+write_refused : (print : Bytes → ℕ) (s : State) (n : ℕ) (x : Bytes) (e : Refusal) (t : State) → Stands print s
+    → Writes print s n x (Err e) t → Outcome print s (write n x) (Refused e) t
+write_refused print s n x e t h (is, why) =
+    idle print s (write n x) (Refused e) t h is (plain why) refl (λ so now. now)
   where
-    plain : NoHostPage s n e ⊎ (WrongLength s n (length x) e ⊎ NoRoom fingerprint s n x e) → Plain (page_map s) (write n x) (Refused e) (page_map s)
+    plain : NoHostPage s n e ⊎ (WrongLength s n (length x) e ⊎ NoRoom print s n x e) → Plain (page_map s) (write n x) (Refused e) (page_map s)
     plain (inl (four, out)) =
         inr (
           λ host. refused_as e 4 four ∙ sym (missing s n _ _ out),
@@ -77,7 +77,7 @@ write_refused fingerprint s n x e t h (is, why) =
           λ host. refused_as e 5 five ∙ sym (there s n _ _ inside ∙ cond-false (eqb (length x) 256) _ _ (ne_eqb (length x) 256 short)),
           sym (cond-false (eqb (length x) 256) _ _ (ne_eqb (length x) 256 short)),
         )
-    plain (inr (inr why3)) = inl (refl, refused_as e 3 why3.0, refl)
+    plain (inr (inr why3)) = inl (refused_as e 3 why3.0, refl)
 
 -- An accepted write sets its page.
 wrote : (s t : State) (n : ℕ) (x : Bytes) (w : Written) → n < host_pages s → length x ≡ 256 → page_map t ≡ set (page_map s) n (Some x)
@@ -88,10 +88,10 @@ wrote s t n x w inside whole is =
       is ∙ sym (cond-true (eqb (length x) 256) _ _ (eq-eqb (length x) 256 whole)),
     )
 
-write_unchanged : (fingerprint : Bytes → ℕ) (s : State) (n : ℕ) (x : Bytes) (moved : ℕ) (t : State) → Stands fingerprint s → n < host_pages s → length x ≡ 256
-    → WritesAs fingerprint s n x Unchanged moved t → Outcome fingerprint s (write n x) (Wrote (record { kind = Unchanged; moved = moved })) t
-write_unchanged fingerprint s n x moved t h inside whole (holds, none, is) =
-    subst (Outcome fingerprint s (write n x) (Wrote (record { kind = Unchanged; moved = moved }))) (sym is)
+write_unchanged : (print : Bytes → ℕ) (s : State) (n : ℕ) (x : Bytes) (moved : ℕ) (t : State) → Stands print s → n < host_pages s → length x ≡ 256
+    → WritesAs print s n x Unchanged moved t → Outcome print s (write n x) (Wrote (record { kind = Unchanged; moved = moved })) t
+write_unchanged print s n x moved t h inside whole (holds, none, is) =
+    subst (Outcome print s (write n x) (Wrote (record { kind = Unchanged; moved = moved }))) (sym is)
     (record {
       standing = h;
       plain = wrote s s n x (record { kind = Unchanged; moved = moved }) inside whole (map-set s s n (Some x) inside refl holds (λ m l ne. refl));
@@ -100,34 +100,34 @@ write_unchanged fingerprint s n x moved t h inside whole (holds, none, is) =
     })
 
 -- The clean block is still there in a state with the same part.
-same_spare : (fingerprint : Bytes → ℕ) (s t : State) → Stands fingerprint s → t.part ≡ s.part → Mid fingerprint t → Stands fingerprint t
-same_spare fingerprint s t h is m =
-    stands fingerprint t m
+same_spare : (print : Bytes → ℕ) (s t : State) → Stands print s → t.part ≡ s.part → Mid print t → Stands print t
+same_spare print s t h is m =
+    stands print t m
     (subst (λ (y : Part). (b : ℕ) × (b < length y.blocks) × (eqb (written y b) 0 ≡ true)) (sym is) h.blocks.spare)
 
-write_shared : (fingerprint : Bytes → ℕ) (s : State) (n : ℕ) (x : Bytes) (moved : ℕ) (t : State) → Stands fingerprint s → n < host_pages s → length x ≡ 256
-    → WritesAs fingerprint s n x Shared moved t → Outcome fingerprint s (write n x) (Wrote (record { kind = Shared; moved = moved })) t
-write_shared fingerprint s n x moved t h inside whole (other, none, (q, e, offers, entry, is)) =
-    subst (Outcome fingerprint s (write n x) (Wrote (record { kind = Shared; moved = moved }))) (sym is)
+write_shared : (print : Bytes → ℕ) (s : State) (n : ℕ) (x : Bytes) (moved : ℕ) (t : State) → Stands print s → n < host_pages s → length x ≡ 256
+    → WritesAs print s n x Shared moved t → Outcome print s (write n x) (Wrote (record { kind = Shared; moved = moved })) t
+write_shared print s n x moved t h inside whole (other, none, (q, e, offers, entry, is)) =
+    subst (Outcome print s (write n x) (Wrote (record { kind = Shared; moved = moved }))) (sym is)
     (record {
-      standing = same_spare fingerprint s (repoint v n k) h part_same (pointed_mid fingerprint v n k v_mid in_v fit);
+      standing = same_spare print s (repoint v n k) h part_same (pointed_mid print v n k v_mid in_v fit);
       plain = wrote s (repoint v n k) n x (record { kind = Shared; moved = moved }) inside whole
-          (map-set s (repoint v n k) n (Some x) inside (pointed_hosts fingerprint v n k v_mid in_v fit ∙ v_hosts)
-          (pointed_held fingerprint v n k v_mid in_v fit ∙ ap (content s.part) leads_q ∙ offers.2)
-          (λ m l ne. pointed_other fingerprint v n k v_mid in_v fit m (subst (λ c. m < c) (sym v_hosts) l) ne
-          ∙ ap (content s.part) (lifted_reach fingerprint s q e m₀ live small entry m l)));
+          (map-set s (repoint v n k) n (Some x) inside (pointed_hosts print v n k v_mid in_v fit ∙ v_hosts)
+          (pointed_held print v n k v_mid in_v fit ∙ ap (content s.part) leads_q ∙ offers.2)
+          (λ m l ne. pointed_other print v n k v_mid in_v fit m (subst (λ c. m < c) (sym v_hosts) l) ne
+          ∙ ap (content s.part) (lifted_reach print s q e m₀ live small entry m l)));
       worn = ap wear part_same ∙ omega (arith, none);
       exact = λ so was now. absurd (both_ways false refl now);
     })
   where
-    m₀ : Mid fingerprint s
-    m₀ = mid fingerprint s h
+    m₀ : Mid print s
+    m₀ = mid print s h
 
     live : in_use s q ≡ true
     live = (h.stores.each offers.0 _ offers.1).live
 
     small : q < no_page
-    small = omega (arith, (h.stores.each offers.0 _ offers.1).inside, (sizes fingerprint s m₀).all)
+    small = omega (arith, (h.stores.each offers.0 _ offers.1).inside, (sizes print s m₀).all)
 
     v : State
     v = lifted s q e
@@ -135,17 +135,17 @@ write_shared fingerprint s n x moved t h inside whole (other, none, (q, e, offer
     k : ℕ
     k = 4096 + e
 
-    v_mid : Mid fingerprint v
-    v_mid = lifted_mid fingerprint s q e m₀ live small entry
+    v_mid : Mid print v
+    v_mid = lifted_mid print s q e m₀ live small entry
 
     v_hosts : host_pages v ≡ host_pages s
-    v_hosts = lifted_hosts fingerprint s q e m₀ live small entry
+    v_hosts = lifted_hosts print s q e m₀ live small entry
 
     in_v : n < host_pages v
     in_v = subst (λ c. n < c) (sym v_hosts) inside
 
     v_entry : names v k ≡ q
-    v_entry = lifted_entry fingerprint s q e m₀ live small entry
+    v_entry = lifted_entry print s q e m₀ live small entry
 
     fit : Fit (names v) (is_written v.part) k
     fit = inr (inr (omega arith, omega (arith, v_entry, small)))
@@ -154,65 +154,60 @@ write_shared fingerprint s n x moved t h inside whole (other, none, (q, e, offer
     leads_q = ⊎_elim (λ c. absurd (omega (arith, c.0))) (λ c. c.1 ∙ v_entry) (leads_cases (names v) k)
 
     part_same : (repoint v n k).part ≡ s.part
-    part_same = pointed_part fingerprint v n k v_mid in_v fit
+    part_same = pointed_part print v n k v_mid in_v fit
 
 -- Storing in a state u that is ready and holds what s holds.
-store_ready : (fingerprint : Bytes → ℕ) (s : State) (n : ℕ) (x : Bytes) (moved : ℕ) (u t : State) → n < host_pages s → length x ≡ 256
-    → Stands fingerprint u → Ready u → host_pages u ≡ host_pages s → ((m : ℕ) → m < host_pages s → held u m ≡ held s m)
-    → NoneOffered fingerprint u x → wear u.part ≡ wear s.part + moved → Stores fingerprint u n x t
-    → Outcome fingerprint s (write n x) (Wrote (record { kind = Stored; moved = moved })) t
-store_ready fingerprint s n x moved u t inside whole h ready hosts same none worn (b, after, takes, entered, is) =
+store_ready : (print : Bytes → ℕ) (s : State) (n : ℕ) (x : Bytes) (moved : ℕ) (u t : State) → n < host_pages s → length x ≡ 256
+    → Stands print u → Ready u → host_pages u ≡ host_pages s → ((m : ℕ) → m < host_pages s → held u m ≡ held s m)
+    → NoneOffered print u x → wear u.part ≡ wear s.part + moved → Stores print u n x t
+    → Outcome print s (write n x) (Wrote (record { kind = Stored; moved = moved })) t
+store_ready print s n x moved u t inside whole h ready hosts same none worn (b, after, takes, entered, is) =
     let in_u : n < host_pages u = subst (λ c. n < c) (sym hosts) inside in
     let end = repoint (record { part = appended u.part b x; words = u.words; shared = u.shared; store = after }) n (next_page u b) in
-    subst (Outcome fingerprint s (write n x) (Wrote (record { kind = Stored; moved = moved }))) (sym is)
+    subst (Outcome print s (write n x) (Wrote (record { kind = Stored; moved = moved }))) (sym is)
     (record {
-      standing = stored_stands fingerprint u n x b after h in_u whole ready none takes entered;
+      standing = stored_stands print u n x b after h in_u whole ready none takes entered;
       plain = wrote s end n x (record { kind = Stored; moved = moved }) inside whole
-          (map-set s end n (Some x) inside (stored_hosts fingerprint u n x b after h in_u whole ready none takes entered ∙ hosts)
-          (stored_held fingerprint u n x b after h in_u whole ready none takes entered)
-          (λ m l ne. stored_other fingerprint u n x b after h in_u whole ready none takes entered m (subst (λ c. m < c) (sym hosts) l) ne ∙ same m l));
-      worn = omega (arith, stored_wear fingerprint u n x b after h in_u whole ready none takes entered, worn);
+          (map-set s end n (Some x) inside (stored_hosts print u n x b after h in_u whole ready none takes entered ∙ hosts)
+          (stored_held print u n x b after h in_u whole ready none takes entered)
+          (λ m l ne. stored_other print u n x b after h in_u whole ready none takes entered m (subst (λ c. m < c) (sym hosts) l) ne ∙ same m l));
+      worn = omega (arith, stored_wear print u n x b after h in_u whole ready none takes entered, worn);
       exact = λ so was now. absurd (both_ways false refl now);
     })
 
-write_stored : (fingerprint : Bytes → ℕ) (s : State) (n : ℕ) (x : Bytes) (moved : ℕ) (t : State) → Stands fingerprint s → n < host_pages s → length x ≡ 256
-    → WritesAs fingerprint s n x Stored moved t → Outcome fingerprint s (write n x) (Wrote (record { kind = Stored; moved = moved })) t
-write_stored fingerprint s n x moved t h inside whole (other, none, (u, readied, stores)) = by readied
+write_stored : (print : Bytes → ℕ) (s : State) (n : ℕ) (x : Bytes) (moved : ℕ) (t : State) → Stands print s → n < host_pages s → length x ≡ 256
+    → WritesAs print s n x Stored moved t → Outcome print s (write n x) (Wrote (record { kind = Stored; moved = moved })) t
+write_stored print s n x moved t h inside whole (other, none, (u, readied, stores)) = by readied
   where
-    by : Readied s moved u → Outcome fingerprint s (write n x) (Wrote (record { kind = Stored; moved = moved })) t
+    by : Readied s moved u → Outcome print s (write n x) (Wrote (record { kind = Stored; moved = moved })) t
     by (inl (ready, zero_moved, is)) =
-        store_ready fingerprint s n x moved s t inside whole h ready refl (λ m l. refl) none (omega (arith, zero_moved))
-        (subst (λ y. Stores fingerprint y n x t) is stores)
+        store_ready print s n x moved s t inside whole h ready refl (λ m l. refl) none (omega (arith, zero_moved))
+        (subst (λ y. Stores print y n x t) is stores)
     by (inr (unready, (v, victim, count, collected))) =
-        let k = collected_keeps fingerprint s v u (mid fingerprint s h) victim collected in
-        store_ready fingerprint s n x moved u t inside whole k.0.standing (ready_after fingerprint s v u h unready victim collected)
+        let k = collected_keeps print s v u (mid print s h) victim collected in
+        store_ready print s n x moved u t inside whole k.0.standing (ready_after print s v u h unready victim collected)
         k.0.same_hosts k.0.same_held (λ q o. let r = k.0.offered x q o in none r.0 r.1)
         (k.1 ∙ ap (λ c. wear s.part + c) (sym count)) stores
 
-write_accepted : (fingerprint : Bytes → ℕ) (s : State) (n : ℕ) (x : Bytes) (kind : Kind) (moved : ℕ) (t : State) → Stands fingerprint s → n < host_pages s
-    → length x ≡ 256 → WritesAs fingerprint s n x kind moved t → Outcome fingerprint s (write n x) (Wrote (record { kind = kind; moved = moved })) t
-write_accepted fingerprint s n x Stored moved t h inside whole r = write_stored fingerprint s n x moved t h inside whole r
-write_accepted fingerprint s n x Shared moved t h inside whole r = write_shared fingerprint s n x moved t h inside whole r
-write_accepted fingerprint s n x Unchanged moved t h inside whole r = write_unchanged fingerprint s n x moved t h inside whole r
+write_accepted : (print : Bytes → ℕ) (s : State) (n : ℕ) (x : Bytes) (kind : Kind) (moved : ℕ) (t : State) → Stands print s → n < host_pages s
+    → length x ≡ 256 → WritesAs print s n x kind moved t → Outcome print s (write n x) (Wrote (record { kind = kind; moved = moved })) t
+write_accepted print s n x Stored moved t h inside whole r = write_stored print s n x moved t h inside whole r
+write_accepted print s n x Shared moved t h inside whole r = write_shared print s n x moved t h inside whole r
+write_accepted print s n x Unchanged moved t h inside whole r = write_unchanged print s n x moved t h inside whole r
 
-write_outcome : (fingerprint : Bytes → ℕ) (s : State) (n : ℕ) (x : Bytes) (r : Result Written Refusal) (t : State) → Stands fingerprint s
-    → Writes fingerprint s n x r t → Outcome fingerprint s (write n x) (answer_of Wrote r) t
-write_outcome fingerprint s n x (Ok w) t h (inside, whole, rule) = write_accepted fingerprint s n x w.kind w.moved t h inside whole rule
-write_outcome fingerprint s n x (Err e) t h why = write_refused fingerprint s n x e t h why
+write_outcome : (print : Bytes → ℕ) (s : State) (n : ℕ) (x : Bytes) (r : Result Written Refusal) (t : State) → Stands print s
+    → Writes print s n x r t → Outcome print s (write n x) (answer_of Wrote r) t
+write_outcome print s n x (Ok w) t h (inside, whole, rule) = write_accepted print s n x w.kind w.moved t h inside whole rule
+write_outcome print s n x (Err e) t h why = write_refused print s n x e t h why
 
-read_outcome : (fingerprint : Bytes → ℕ) (s : State) (n : ℕ) (before : Bytes) (r : Result (Unit {0}) Refusal) (t : State) (after : Bytes)
-    → Stands fingerprint s → Reads s n before r t after → Outcome fingerprint s (read n (length before)) (answer_of (λ u. Page after) r) t
-read_outcome fingerprint s n before (Ok u) t x h (is, inside, whole, has) =
-    let len = length before in
-    idle fingerprint s (read n len) (Page x) t h is
+read_outcome : (print : Bytes → ℕ) (s : State) (n len : ℕ) (r : Result Bytes Refusal) (t : State) → Stands print s
+    → Reads s n len r t → Outcome print s (read n len) (answer_of Page r) t
+read_outcome print s n len (Ok x) t h (is, inside, whole, has) =
+    idle print s (read n len) (Page x) t h is
     (inr (λ host. sym (there s n _ _ inside ∙ cond-true (eqb len 256) _ _ (eq-eqb len 256 whole) ∙ ap shown (map_at s n inside ∙ has)), refl))
     refl (λ so now. now)
-read_outcome fingerprint s n before (Err e) t after h (is, kept, why) =
-    idle fingerprint s (read n len) (Refused e) t h is (inr (λ host. said why, refl)) refl (λ so now. now)
+read_outcome print s n len (Err e) t h (is, why) = idle print s (read n len) (Refused e) t h is (inr (λ host. said why, refl)) refl (λ so now. now)
   where
-    len : ℕ
-    len = length before
-
     said : NoHostPage s n e ⊎ (WrongLength s n len e ⊎ EmptyPage s n len e) → seen (Refused e) ≡ plain_answer (page_map s) (read n len)
     said (inl (four, out)) = refused_as e 4 four ∙ sym (missing s n _ _ out)
     said (inr (inl (five, inside, short))) =
@@ -220,43 +215,43 @@ read_outcome fingerprint s n before (Err e) t after h (is, kept, why) =
     said (inr (inr (six, inside, whole, empty))) =
         refused_as e 6 six ∙ sym (there s n _ _ inside ∙ cond-true (eqb len 256) _ _ (eq-eqb len 256 whole) ∙ ap shown (map_at s n inside ∙ empty))
 
-trim_outcome : (fingerprint : Bytes → ℕ) (s : State) (n : ℕ) (r : Result ℕ Refusal) (t : State) → Stands fingerprint s
-    → Trims s n r t → Outcome fingerprint s (trim n) (answer_of Trimmed r) t
-trim_outcome fingerprint s n (Err e) t h (is, (four, out)) =
-    idle fingerprint s (trim n) (Refused e) t h is
+trim_outcome : (print : Bytes → ℕ) (s : State) (n : ℕ) (r : Result ℕ Refusal) (t : State) → Stands print s
+    → Trims s n r t → Outcome print s (trim n) (answer_of Number r) t
+trim_outcome print s n (Err e) t h (is, (four, out)) =
+    idle print s (trim n) (Refused e) t h is
     (inr (λ host. refused_as e 4 four ∙ sym (missing s n _ _ out), sym (map_past s n None out))) refl (λ so now. now)
-trim_outcome fingerprint s n (Ok had) t h (inside, count, is) =
-    subst (Outcome fingerprint s (trim n) (Trimmed had)) (sym is)
+trim_outcome print s n (Ok had) t h (inside, count, is) =
+    subst (Outcome print s (trim n) (Number had)) (sym is)
     (record {
-      standing = same_spare fingerprint s (repoint s n no_page) h part_same (pointed_mid fingerprint s n no_page m₀ inside fit);
+      standing = same_spare print s (repoint s n no_page) h part_same (pointed_mid print s n no_page m₀ inside fit);
       plain = inr (
         λ host. ap number (count ∙ ap (λ o. cond (is_some o) 1 0) (sym (map_at s n inside))) ∙ sym (there s n _ _ inside),
-        map-set s (repoint s n no_page) n None inside (pointed_hosts fingerprint s n no_page m₀ inside fit)
-            (pointed_held fingerprint s n no_page m₀ inside fit ∙ ap (content s.part) none_led ∙ content_none fingerprint s m₀)
-            (λ m l ne. pointed_other fingerprint s n no_page m₀ inside fit m l ne),
+        map-set s (repoint s n no_page) n None inside (pointed_hosts print s n no_page m₀ inside fit)
+            (pointed_held print s n no_page m₀ inside fit ∙ ap (content s.part) none_led ∙ content_none print s m₀)
+            (λ m l ne. pointed_other print s n no_page m₀ inside fit m l ne),
       );
       worn = ap wear part_same ∙ omega arith;
       exact = λ so was now. absurd (both_ways false refl now);
     })
   where
-    m₀ : Mid fingerprint s
-    m₀ = mid fingerprint s h
+    m₀ : Mid print s
+    m₀ = mid print s h
 
     fit : Fit (names s) (is_written s.part) no_page
     fit = inl refl
 
     part_same : (repoint s n no_page).part ≡ s.part
-    part_same = pointed_part fingerprint s n no_page m₀ inside fit
+    part_same = pointed_part print s n no_page m₀ inside fit
 
     none_led : leads (names s) no_page ≡ no_page
     none_led = ⊎_elim (λ c. c.1) (λ c. absurd (omega (arith, c.0))) (leads_cases (names s) no_page)
 
-collect_outcome : (fingerprint : Bytes → ℕ) (s : State) (r : Result ℕ Refusal) (t : State) → Stands fingerprint s
-    → Collects s r t → Outcome fingerprint s collect (answer_of PagesMoved r) t
-collect_outcome fingerprint s (Err e) t h (is, why) =
-    idle fingerprint s collect (Refused e) t h is (inr (λ host. absurd (both_ways false refl host), refl)) refl (λ so now. now)
-collect_outcome fingerprint s (Ok moved) t h (v, victim, count, collected) =
-    let k = collected_keeps fingerprint s v t (mid fingerprint s h) victim collected in
+collect_outcome : (print : Bytes → ℕ) (s : State) (r : Result ℕ Refusal) (t : State) → Stands print s
+    → Collects s r t → Outcome print s collect (answer_of Number r) t
+collect_outcome print s (Err e) t h (is, why) =
+    idle print s collect (Refused e) t h is (inr (λ host. absurd (both_ways false refl host), refl)) refl (λ so now. now)
+collect_outcome print s (Ok moved) t h (v, victim, count, collected) =
+    let k = collected_keeps print s v t (mid print s h) victim collected in
     let same = map_same s t k.0.same_hosts k.0.same_held in
     record {
       standing = k.0.standing;
@@ -265,41 +260,37 @@ collect_outcome fingerprint s (Ok moved) t h (v, victim, count, collected) =
       exact = λ so was now. k.0.same_pages ∙ was now ∙ ap (λ m. different (contents m)) (sym same);
     }
 
-scan_outcome : (fingerprint : Bytes → ℕ) (s : State) (r : Result ℕ Refusal) (t : State) → Stands fingerprint s
-    → Scans s r t → Outcome fingerprint s scan (answer_of PagesDied r) t
-scan_outcome fingerprint s (Err e) t h never = absurd never
-scan_outcome fingerprint s (Ok died) t h merges =
-    let k = merges_scanned fingerprint died s t (mid fingerprint s h) merges in
+scan_outcome : (print : Bytes → ℕ) (s : State) (r : Result ℕ Refusal) (t : State) → Stands print s
+    → Scans s r t → Outcome print s scan (answer_of Number r) t
+scan_outcome print s (Err e) t h never = absurd never
+scan_outcome print s (Ok died) t h merges =
+    let k = merges_scanned print died s t (mid print s h) merges in
     record {
-      standing = same_spare fingerprint s t h k.same_part k.mids;
+      standing = same_spare print s t h k.same_part k.mids;
       plain = inr (λ host. absurd (both_ways false refl host), map_same s t k.same_hosts k.same_held);
       worn = ap wear k.same_part ∙ omega arith;
-      exact = λ so was now. pages_exact fingerprint t k.mids k.no_copies;
+      exact = λ so was now. pages_exact print t k.mids k.no_copies;
     }
 
-usage_outcome : (fingerprint : Bytes → ℕ) (s : State) (r : Result Usage Refusal) (t : State) → Stands fingerprint s
-    → Asks s r t → Outcome fingerprint s usage (answer_of Used r) t
-usage_outcome fingerprint s (Err e) t h never = absurd never
-usage_outcome fingerprint s (Ok u) t h (is, live, dead, unwritten) =
-    idle fingerprint s usage (Used u) t h is (inr (λ host. absurd (both_ways false refl host), refl)) refl (λ so now. now)
+usage_outcome : (print : Bytes → ℕ) (s : State) (r : Result Usage Refusal) (t : State) → Stands print s
+    → Asks s r t → Outcome print s usage (answer_of Used r) t
+usage_outcome print s (Err e) t h never = absurd never
+usage_outcome print s (Ok u) t h (is, live, dead, unwritten) =
+    idle print s usage (Used u) t h is (inr (λ host. absurd (both_ways false refl host), refl)) refl (λ so now. now)
 
-save_outcome : (fingerprint : Bytes → ℕ) (s : State) (before : Bytes) (r : Result ℕ Refusal) (t : State) (after : Bytes) → Stands fingerprint s
-    → Saves s before r t after → Outcome fingerprint s (save (length before)) (answer_of Saved r) t
-save_outcome fingerprint s before (Ok size) t after h (is, size_is, fits, long, rest) =
-    idle fingerprint s (save (length before)) (Saved size) t h is (inr (λ host. absurd (both_ways false refl host), refl)) refl (λ so now. now)
-save_outcome fingerprint s before (Err e) t after h (is, kept, eight, short) =
-    idle fingerprint s (save (length before)) (Refused e) t h is (inr (λ host. absurd (both_ways false refl host), refl)) refl (λ so now. now)
+save_outcome : (print : Bytes → ℕ) (s : State) (len : ℕ) (r : Result ℕ Refusal) (t : State) → Stands print s
+    → Saves s len r t → Outcome print s (save len) (answer_of Number r) t
+save_outcome print s len (Ok size) t h (is, size_is, fits) =
+    idle print s (save len) (Number size) t h is (inr (λ host. absurd (both_ways false refl host), refl)) refl (λ so now. now)
+save_outcome print s len (Err e) t h (is, eight, short) =
+    idle print s (save len) (Refused e) t h is (inr (λ host. absurd (both_ways false refl host), refl)) refl (λ so now. now)
 
-pub step_outcome : (fingerprint : Bytes → ℕ) (s : State) (c : Call) (a : Answer) (t : State) → Stands fingerprint s → Step fingerprint s c a t
-    → Outcome fingerprint s c a t
-step_outcome fingerprint s (write n x) a t h (r, is, rule) = subst (λ y. Outcome fingerprint s (write n x) y t) (sym is) (write_outcome fingerprint s n x r t h rule)
-step_outcome fingerprint s (read n len) a t h (r, before, after, len_is, is, rule) =
-    subst (λ k. Outcome fingerprint s (read n k) a t) len_is
-    (subst (λ y. Outcome fingerprint s (read n (length before)) y t) (sym is) (read_outcome fingerprint s n before r t after h rule))
-step_outcome fingerprint s (trim n) a t h (r, is, rule) = subst (λ y. Outcome fingerprint s (trim n) y t) (sym is) (trim_outcome fingerprint s n r t h rule)
-step_outcome fingerprint s collect a t h (r, is, rule) = subst (λ y. Outcome fingerprint s collect y t) (sym is) (collect_outcome fingerprint s r t h rule)
-step_outcome fingerprint s scan a t h (r, is, rule) = subst (λ y. Outcome fingerprint s scan y t) (sym is) (scan_outcome fingerprint s r t h rule)
-step_outcome fingerprint s usage a t h (r, is, rule) = subst (λ y. Outcome fingerprint s usage y t) (sym is) (usage_outcome fingerprint s r t h rule)
-step_outcome fingerprint s (save len) a t h (r, before, after, len_is, is, rule) =
-    subst (λ k. Outcome fingerprint s (save k) a t) len_is
-    (subst (λ y. Outcome fingerprint s (save (length before)) y t) (sym is) (save_outcome fingerprint s before r t after h rule))
+pub step_outcome : (print : Bytes → ℕ) (s : State) (c : Call) (a : Answer) (t : State) → Stands print s → Step print s c a t
+    → Outcome print s c a t
+step_outcome print s (write n x) a t h (r, is, rule) = subst (λ y. Outcome print s (write n x) y t) (sym is) (write_outcome print s n x r t h rule)
+step_outcome print s (read n len) a t h (r, is, rule) = subst (λ y. Outcome print s (read n len) y t) (sym is) (read_outcome print s n len r t h rule)
+step_outcome print s (trim n) a t h (r, is, rule) = subst (λ y. Outcome print s (trim n) y t) (sym is) (trim_outcome print s n r t h rule)
+step_outcome print s collect a t h (r, is, rule) = subst (λ y. Outcome print s collect y t) (sym is) (collect_outcome print s r t h rule)
+step_outcome print s scan a t h (r, is, rule) = subst (λ y. Outcome print s scan y t) (sym is) (scan_outcome print s r t h rule)
+step_outcome print s usage a t h (r, is, rule) = subst (λ y. Outcome print s usage y t) (sym is) (usage_outcome print s r t h rule)
+step_outcome print s (save len) a t h (r, is, rule) = subst (λ y. Outcome print s (save len) y t) (sym is) (save_outcome print s len r t h rule)

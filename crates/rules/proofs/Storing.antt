@@ -7,13 +7,12 @@ use Rattle.std.proofs.lemmas.Nat.{le-div}
 use Rattle.flash.specs.Part.{Block, Part, Sound, no_block, written, appended, wear}
 use Rattle.flash.proofs.Keeps.{sound_appended}
 use Rattle.flash.proofs.Wear.{wear_appended}
-use Rattle.rules.specs.declared.entry.Entry.{Entry}
-use Rattle.rules.specs.State.{Bytes, State, no_page, block_count, per_block, flash_pages, host_pages, names, leads, reach, content, in_use, is_written, is_clean, hotness, held}
+use Rattle.rules.specs.State.{Bytes, Entry, State, no_page, block_count, per_block, flash_pages, host_pages, names, leads, reach, content, in_use, is_written, is_clean, hotness, held}
 use Rattle.rules.specs.Tables.{next_page, repoint}
 use Rattle.rules.specs.Store.{entry_at, Entered}
 use Rattle.rules.specs.Calls.{Takes, Ready, NoneOffered}
 use Rattle.rules.specs.Making.{Agrees}
-use Rattle.rules.specs.Stands.{StoreStands, Stands, Mid}
+use Rattle.rules.specs.Stands.{StoreStands, Stands}
 use Rattle.rules.proofs.Cases.{some_same}
 use Rattle.rules.proofs.Tally.{another}
 use Rattle.rules.proofs.Namers.{Fit, leads_cases, written_agrees}
@@ -21,21 +20,21 @@ use Rattle.rules.proofs.Content.{content_new, content_old, content_stays, conten
 use Rattle.rules.proofs.Live.{live_written, reach_named}
 use Rattle.rules.proofs.LetGo.{repoint_agrees, reach_here, reach_other, repoint_part, repoint_hosts, repoint_shared, repoint_places, repoint_was, repoint_entry}
 use Rattle.rules.proofs.Blocks.{takes_room, part_written_in, clean_in, single_appended, written_other}
-use Rattle.rules.proofs.Moving.{mid, stands, sizes, hosts, some_pages, fits_same}
+use Rattle.rules.proofs.Moving.{Mid, mid, stands, sizes, hosts, some_pages, fits_same}
 use Rattle.rules.proofs.Entering.{entered_cases, entered_length, entered_entry, entered_apart}
 
 -- No page is found under the number that stands for none.
-pub content_none : (fingerprint : Bytes → ℕ) (s : State) → Mid fingerprint s → content s.part no_page ≡ None
-content_none fingerprint s h =
+pub content_none : (print : Bytes → ℕ) (s : State) → Mid print s → content s.part no_page ≡ None
+content_none print s h =
     ap (λ (y : Block). slice_get y.pages (no_page % per_block s))
     (get_or_past s.part.blocks (no_page / per_block s) no_block
-    (le-div (block_count s) no_page (per_block s) (some_pages fingerprint s h) (sizes fingerprint s h).all))
+    (le-div (block_count s) no_page (per_block s) (some_pages print s h) (sizes print s h).all))
 
-module _ (fingerprint : Bytes → ℕ) (s : State) (n : ℕ) (x : Bytes) (b : ℕ) (after : List (Option Entry)) (h : Stands fingerprint s) (in_host : n < host_pages s)
-    (whole : length x ≡ 256) (ready : Ready s) (none : NoneOffered fingerprint s x) (takes : Takes s b)
-    (entered : Entered (hotness s) s.store (record { fingerprint = fingerprint x; page = next_page s b }) 1 after) where
-  abbrev m : Mid fingerprint s
-  m = mid fingerprint s h
+module _ (print : Bytes → ℕ) (s : State) (n : ℕ) (x : Bytes) (b : ℕ) (after : List (Option Entry)) (h : Stands print s) (in_host : n < host_pages s)
+    (whole : length x ≡ 256) (ready : Ready s) (none : NoneOffered print s x) (takes : Takes s b)
+    (entered : Entered (hotness s) s.store (record { print = print x; page = next_page s b }) 1 after) where
+  abbrev m : Mid print s
+  m = mid print s h
 
   abbrev new : ℕ
   new = next_page s b
@@ -48,22 +47,22 @@ module _ (fingerprint : Bytes → ℕ) (s : State) (n : ℕ) (x : Bytes) (b : �
   t = repoint v n new
 
   room : written s.part b < per_block s
-  room = takes_room s b (some_pages fingerprint s m) takes
+  room = takes_room s b (some_pages print s m) takes
 
   unwritten : is_written s.part new ≡ false
-  unwritten = new_unwritten s.part (some_pages fingerprint s m) b x takes.0 room
+  unwritten = new_unwritten s.part (some_pages print s m) b x takes.0 room
 
   inside : new < flash_pages s
-  inside = new_inside s.part (some_pages fingerprint s m) b x takes.0 room
+  inside = new_inside s.part (some_pages print s m) b x takes.0 room
 
   small : new < no_page
-  small = omega (arith, inside, (sizes fingerprint s m).all)
+  small = omega (arith, inside, (sizes print s m).all)
 
   stays : (q : ℕ) → is_written s.part q ≡ true → content v.part q ≡ content s.part q
-  stays q w = content_stays s.part (some_pages fingerprint s m) b x takes.0 room q w
+  stays q w = content_stays s.part (some_pages print s m) b x takes.0 room q w
 
   fresh : content v.part new ≡ Some x
-  fresh = content_new s.part (some_pages fingerprint s m) b x takes.0 room
+  fresh = content_new s.part (some_pages print s m) b x takes.0 room
 
   v_agrees : Agrees v
   v_agrees =
@@ -78,7 +77,7 @@ module _ (fingerprint : Bytes → ℕ) (s : State) (n : ℕ) (x : Bytes) (b : �
   ))
 
   few : host_pages v ≤ 4096
-  few = hosts fingerprint s m
+  few = hosts print s m
 
   leads_new : leads (names v) new ≡ new
   leads_new = ⊎_elim (λ c. c.1) (λ c. absurd (omega (arith, c.0, small))) (leads_cases (names v) new)
@@ -97,7 +96,7 @@ module _ (fingerprint : Bytes → ℕ) (s : State) (n : ℕ) (x : Bytes) (b : �
 
   -- A page in use is written.
   live_is_written : (q : ℕ) → q < flash_pages s → in_use s q ≡ true → is_written s.part q ≡ true
-  live_is_written q l live = live_written s few h.agrees q (omega (arith, l, (sizes fingerprint s m).all)) live
+  live_is_written q l live = live_written s few h.agrees q (omega (arith, l, (sizes print s m).all)) live
 
   pub stored_held : held t n ≡ Some x
   stored_held =
@@ -108,7 +107,7 @@ module _ (fingerprint : Bytes → ℕ) (s : State) (n : ℕ) (x : Bytes) (b : �
   stored_other k l ne =
       ap (λ (y : Part). content y (reach t k)) t_part
       ∙ ap (content v.part) (reach_other v n new few in_host v_agrees fit k l ne)
-      ∙ content_old s.part (some_pages fingerprint s m) b x takes.0 room (reach s k)
+      ∙ content_old s.part (some_pages print s m) b x takes.0 room (reach s k)
       (λ e. ⊎_elim (λ no. omega (arith, no, e, small))
       (λ w. both_ways (is_written s.part new) unwritten
       (ap (is_written s.part) (sym (w.1 ∙ e)) ∙ h.agrees.there w.0 (omega (arith, w.1, e, small))))
@@ -116,24 +115,24 @@ module _ (fingerprint : Bytes → ℕ) (s : State) (n : ℕ) (x : Bytes) (b : �
 
   -- Every entry before the word is set stands, but that the new one's page is not in use yet.
   v_entry : (k : ℕ) (e : Entry) → entry_at after k ≡ Some e
-      → ((e ≡ record { fingerprint = fingerprint x; page = new }) × (k / 16 ≡ fingerprint x % 16)) ⊎ (entry_at s.store k ≡ Some e)
+      → ((e ≡ record { print = print x; page = new }) × (k / 16 ≡ print x % 16)) ⊎ (entry_at s.store k ≡ Some e)
   v_entry k e is =
       ⊎_elim (λ same. inr (ap (λ (y : List (Option Entry)). entry_at y k) (sym same) ∙ is))
       (λ p. ⊎_elim (λ here. inl (here.1, ap (λ i. i / 16) here.0 ∙ p.1.1)) (λ other. inr other.1)
-      (entered_entry s.store after (record { fingerprint = fingerprint x; page = new }) p.0
+      (entered_entry s.store after (record { print = print x; page = new }) p.0
       (omega (arith, p.1.0, h.stores.places)) p.2 k e is))
-      (entered_cases (hotness s) s.store (record { fingerprint = fingerprint x; page = new }) 1 after entered)
+      (entered_cases (hotness s) s.store (record { print = print x; page = new }) 1 after entered)
 
   entry_fact : (k : ℕ) (e : Entry) → entry_at after k ≡ Some e
-      → (e.page < flash_pages s) × ((in_use v e.page ≡ true) ⊎ (e.page ≡ leads (names v) new)) × (k / 16 ≡ e.fingerprint % 16)
-      × ((y : Bytes) → content v.part e.page ≡ Some y → e.fingerprint ≡ fingerprint y)
+      → (e.page < flash_pages s) × ((in_use v e.page ≡ true) ⊎ (e.page ≡ leads (names v) new)) × (k / 16 ≡ e.print % 16)
+      × ((y : Bytes) → content v.part e.page ≡ Some y → e.print ≡ print y)
   entry_fact k e is =
       ⊎_elim
-      (λ new_one. let page_is = ap (λ (y : Entry). y.page) new_one.0 in let fingerprint_is = ap (λ (y : Entry). y.fingerprint) new_one.0 in (
+      (λ new_one. let page_is = ap (λ (y : Entry). y.page) new_one.0 in let print_is = ap (λ (y : Entry). y.print) new_one.0 in (
         subst (λ q. q < flash_pages s) (sym page_is) inside,
         inr (page_is ∙ sym leads_new),
-        new_one.1 ∙ ap (λ i. i % 16) (sym fingerprint_is),
-        λ y has. fingerprint_is ∙ ap fingerprint (let r = ap (content v.part) (sym page_is) ∙ has in some_same (Some x) x y refl (sym fresh ∙ r)),
+        new_one.1 ∙ ap (λ i. i % 16) (sym print_is),
+        λ y has. print_is ∙ ap print (let r = ap (content v.part) (sym page_is) ∙ has in some_same (Some x) x y refl (sym fresh ∙ r)),
       ))
       (λ old_one. let st = h.stores.each k e old_one in (
         st.inside,
@@ -151,7 +150,7 @@ module _ (fingerprint : Bytes → ℕ) (s : State) (n : ℕ) (x : Bytes) (b : �
       there has = repoint_was v n new few in_host v_agrees fit k e has
 
       small_page : entry_at t.store k ≡ Some e → e.page < no_page
-      small_page has = omega (arith, (entry_fact k e (there has)).0, (sizes fingerprint s m).all)
+      small_page has = omega (arith, (entry_fact k e (there has)).0, (sizes print s m).all)
 
       before : entry_at t.store k ≡ Some e → (in_use v e.page ≡ true) ⊎ (e.page ≡ leads (names v) new)
       before has = (entry_fact k e (there has)).1
@@ -166,12 +165,12 @@ module _ (fingerprint : Bytes → ℕ) (s : State) (n : ℕ) (x : Bytes) (b : �
   v_apart : (j k : ℕ) (d e : Entry) → entry_at after j ≡ Some d → entry_at after k ≡ Some e
       → content v.part d.page ≡ content v.part e.page → j ≡ k
   v_apart =
-      entered_apart (content v.part) fingerprint (hotness s) s.store after x new 1 entered h.stores.places fresh
+      entered_apart (content v.part) print (hotness s) s.store after x new 1 entered h.stores.places fresh
       (λ k e is y has. (h.stores.each k e is).right y (sym (old_content k e is) ∙ has))
-      (λ k p is has. none p (k, is, sym (old_content k (record { fingerprint = fingerprint x; page = p }) is) ∙ has))
+      (λ k p is has. none p (k, is, sym (old_content k (record { print = print x; page = p }) is) ∙ has))
       (λ j k d e j_is k_is same. h.stores.apart j k d e j_is k_is (sym (old_content j d j_is) ∙ same ∙ old_content k e k_is))
 
-  t_stores : StoreStands fingerprint t
+  t_stores : StoreStands print t
   t_stores = record {
     places = repoint_places v n new few in_host v_agrees fit ∙ entered_length (hotness s) s.store _ 1 after entered ∙ h.stores.places;
     each = λ k e is. let r = t_entry k e is in let f = entry_fact k e r.0 in
@@ -202,9 +201,9 @@ module _ (fingerprint : Bytes → ℕ) (s : State) (n : ℕ) (x : Bytes) (b : �
           (λ clean. ⊎_elim (λ some. absurd (clean.0 some)) (λ two. another (is_clean s) (block_count s) b takes.0 two) ready)
           takes.1
 
-  pub stored_stands : Stands fingerprint t
+  pub stored_stands : Stands print t
   stored_stands =
-      stands fingerprint t
+      stands print t
       (record {
         fits = fits_same s t t_blocks t_per t_hosts h.sizes;
         entries = repoint_shared v n new few in_host v_agrees fit ∙ h.entries

@@ -7,7 +7,7 @@ use Rattle.flash.specs.Part.{written}
 use Rattle.rules.specs.State.{Bytes, State, no_page, tally, block_count, per_block, flash_pages, names, in_use, is_dead, is_written, is_clean, clean_blocks, dead_pages, page_map}
 use Rattle.rules.specs.Tables.{EntryFor}
 use Rattle.rules.specs.Calls.{HasPartWritten, Collectable}
-use Rattle.rules.specs.Stands.{Stands, Mid}
+use Rattle.rules.specs.Stands.{Stands}
 use Rattle.rules.specs.Promise.{contents}
 use Rattle.rules.proofs.Tally.{one_true, tally_find, tally_pos, tally_mono, tally_split, tally_le, tally_two}
 use Rattle.rules.proofs.Members.{In, Apart}
@@ -15,7 +15,7 @@ use Rattle.rules.proofs.Distinct.{stands_in, distinct, stands_in_find, tally_dis
 use Rattle.rules.proofs.Crossing.{name_entry}
 use Rattle.rules.proofs.Content.{written_inside}
 use Rattle.rules.proofs.Blocks.{part_written_from}
-use Rattle.rules.proofs.Moving.{mid, sizes, some_pages}
+use Rattle.rules.proofs.Moving.{Mid, mid, sizes, some_pages}
 use Rattle.rules.proofs.Counting.{pages_few}
 use Rattle.rules.proofs.PageMaps.{map_length}
 
@@ -53,9 +53,9 @@ contents_le [] = omega arith
 contents_le (None ∷ m) = omega (arith, contents_le m)
 contents_le (Some x ∷ m) = omega (arith, contents_le m)
 
-module _ (fingerprint : Bytes → ℕ) (s : State) (h : Stands fingerprint s) where
-  abbrev m : Mid fingerprint s
-  m = mid fingerprint s h
+module _ (print : Bytes → ℕ) (s : State) (h : Stands print s) where
+  abbrev m : Mid print s
+  m = mid print s h
 
   pub dead_page : (HasPartWritten s → ⊥) → clean_blocks s ≡ 1 → (b : ℕ) × Collectable s b
   dead_page none one_clean =
@@ -63,13 +63,13 @@ module _ (fingerprint : Bytes → ℕ) (s : State) (h : Stands fingerprint s) wh
       let q = d.0 in
       let parts = and_parts (is_written s.part q) (not (in_use s q)) d.2 in
       let b = q / per_block s in
-      let in_b : b < block_count s = div_below q (per_block s) (block_count s) (some_pages fingerprint s m) d.1 in
+      let in_b : b < block_count s = div_below q (per_block s) (block_count s) (some_pages print s m) d.1 in
       let some_written : 0 < written s.part b = omega (arith, ltb-true (q % per_block s) (written s.part b) parts.0) in (
         b,
         (
           in_b,
           eq-eqb (written s.part b) (per_block s) (full b in_b (λ z. absurd (omega arith))),
-          tally_pos (λ k. is_dead s (b * per_block s + k)) (per_block s) (q % per_block s) (mod_below q (per_block s) (some_pages fingerprint s m))
+          tally_pos (λ k. is_dead s (b * per_block s + k)) (per_block s) (q % per_block s) (mod_below q (per_block s) (some_pages print s m))
               (ap (is_dead s) (div-add-mod' q (per_block s)) ∙ d.2),
         ),
       )
@@ -104,11 +104,11 @@ module _ (fingerprint : Bytes → ℕ) (s : State) (h : Stands fingerprint s) wh
             rows,
             split,
             live,
-            pages_few fingerprint s m,
+            pages_few print s m,
             contents_le (page_map s),
             map_length s,
-            (sizes fingerprint s m).host_most,
-            less_one (block_count s) (per_block s) (omega (arith, (sizes fingerprint s m).two)),
+            (sizes print s m).host_most,
+            less_one (block_count s) (per_block s) (omega (arith, (sizes print s m).two)),
           )
         where
           less_one : (n p : ℕ) → 0 < n → (n - 1) * p + p ≡ n * p
@@ -138,18 +138,18 @@ entries_in s zero x i = absurd i
 entries_in s (suc n) x (inl is) = (n, omega arith, sym is)
 entries_in s (suc n) x (inr i) = let r = entries_in s n x i in (r.0, omega (arith, r.1), r.2)
 
-entries_apart : (fingerprint : Bytes → ℕ) (s : State) (n : ℕ) → Mid fingerprint s → ((e : ℕ) → e < n → names s (4096 + e) < no_page) → Apart (entries s n)
+entries_apart : (print : Bytes → ℕ) (s : State) (n : ℕ) → Mid print s → ((e : ℕ) → e < n → names s (4096 + e) < no_page) → Apart (entries s n)
 unfolding entries
-entries_apart fingerprint s zero h used = tt
-entries_apart fingerprint s (suc n) h used = (
+entries_apart print s zero h used = tt
+entries_apart print s (suc n) h used = (
   λ i. let r = entries_in s n (names s (4096 + n)) i in
       absurd (omega (arith, r.1, h.agrees.once (4096 + r.0) (4096 + n) (used r.0 (omega (arith, r.1))) r.2)),
-  entries_apart fingerprint s n h (λ e l. used e (omega arith)),
+  entries_apart print s n h (λ e l. used e (omega arith)),
 )
 
 -- There are as many entries as flash pages: if all are in use, every page has an entry.
-pub free_entry : (fingerprint : Bytes → ℕ) (s : State) (q : ℕ) → Mid fingerprint s → q < flash_pages s → in_use s q ≡ true → (e : ℕ) × EntryFor s q e
-free_entry fingerprint s q h inside live =
+pub free_entry : (print : Bytes → ℕ) (s : State) (q : ℕ) → Mid print s → q < flash_pages s → in_use s q ≡ true → (e : ℕ) × EntryFor s q e
+free_entry print s q h inside live =
     ⊎_elim
     (λ own. let r = tally_find (λ e. eqb (names s (4096 + e)) q) (flash_pages s) (ltb-true 0 _ own) in
     (r.0, (r.1, inl (eqb-true (names s (4096 + r.0)) q r.2))))
@@ -161,7 +161,7 @@ free_entry fingerprint s q h inside live =
     (cases_Bool (ltb 0 (tally (λ e. eqb (names s (4096 + e)) q) (flash_pages s))))
   where
     small : q < no_page
-    small = omega (arith, inside, (sizes fingerprint s h).all)
+    small = omega (arith, inside, (sizes print s h).all)
 
     -- An entry that names a page is one of the flash pages' own.
     in_range : (d : ℕ) → names s (4096 + d) < no_page → d < flash_pages s
@@ -189,11 +189,11 @@ free_entry fingerprint s q h inside live =
         (λ ne. omega (arith, ne, h.agrees.flat (4096 + e) (omega arith))) (cases_eq (names s (4096 + e)) no_page) in
         let xs = entries s (flash_pages s) in
         let apart : Apart (q ∷ xs) =
-        (λ i. let r = entries_in s (flash_pages s) q i in not_own none r.0 r.2, entries_apart fingerprint s (flash_pages s) h used) in
+        (λ i. let r = entries_in s (flash_pages s) q i in not_own none r.0 r.2, entries_apart print s (flash_pages s) h used) in
         let below_all : (x : ℕ) → In x (q ∷ xs) → x < flash_pages s =
         λ x i. ⊎_elim (λ is. omega (arith, is, inside))
         (λ j. let r = entries_in s (flash_pages s) x j in
-        written_inside s.part (some_pages fingerprint s h) x
+        written_inside s.part (some_pages print s h) x
         (ap (is_written s.part) (sym r.2) ∙ h.agrees.there (4096 + r.0) (used r.0 r.1))) i in
         omega (
           arith,

@@ -8,9 +8,8 @@ use Rattle.rules.specs.declared.refusal.Refusal.TheVariants.{NothingToCollect}
 use Rattle.rules.specs.declared.kind.Kind.{Kind}
 use Rattle.rules.specs.declared.kind.Kind.TheVariants.{Stored, Shared, Unchanged}
 use Rattle.rules.specs.declared.answer.Answer.{Answer}
-use Rattle.rules.specs.declared.answer.Answer.TheVariants.{Refused, Wrote, Page, PagesMoved, Used}
-use Rattle.rules.specs.declared.entry.Entry.{Entry}
-use Rattle.rules.specs.State.{Bytes, State, host_pages, hotness, content, names, held, is_clean, is_closed, is_part_written, live_in}
+use Rattle.rules.specs.declared.answer.Answer.TheVariants.{Refused, Wrote, Page, Number, Used}
+use Rattle.rules.specs.State.{Bytes, Entry, State, host_pages, hotness, content, names, held, is_clean, is_closed, is_part_written, live_in}
 use Rattle.rules.specs.Tables.{next_page, programmed, repoint, moved_to}
 use Rattle.rules.specs.Store.{entry_at, Entered}
 use Rattle.rules.specs.Store.Entered.{takes}
@@ -43,26 +42,26 @@ below_three P p q r (suc (suc zero)) l = r
 below_three P p q r (suc (suc (suc b))) l = absurd (omega arith)
 
 -- In a state that is ready, a page that is neither held nor offered is stored at once.
-at_once : (fingerprint : Bytes → ℕ) (s : State) (n : ℕ) (x : Bytes) → n < host_pages s → length x ≡ 256 → Ready s
-    → (Holds s n x → ⊥) → NoneOffered fingerprint s x → (a : Answer) (t : State) → Step fingerprint s (write n x) a t
-    → (a ≡ wrote_as Stored) × Stores fingerprint s n x t
-at_once fingerprint s n x inside whole ready other none a t (Ok w, is, (l, e, how)) = as_stored w.kind w.moved is how
+at_once : (print : Bytes → ℕ) (s : State) (n : ℕ) (x : Bytes) → n < host_pages s → length x ≡ 256 → Ready s
+    → (Holds s n x → ⊥) → NoneOffered print s x → (a : Answer) (t : State) → Step print s (write n x) a t
+    → (a ≡ wrote_as Stored) × Stores print s n x t
+at_once print s n x inside whole ready other none a t (Ok w, is, (l, e, how)) = as_stored w.kind w.moved is how
   where
-    as_stored : (k : Kind) (moved : ℕ) → a ≡ Wrote (record { kind = k; moved = moved }) → WritesAs fingerprint s n x k moved t
-        → (a ≡ wrote_as Stored) × Stores fingerprint s n x t
+    as_stored : (k : Kind) (moved : ℕ) → a ≡ Wrote (record { kind = k; moved = moved }) → WritesAs print s n x k moved t
+        → (a ≡ wrote_as Stored) × Stores print s n x t
     as_stored Stored moved says (out, offered, (u, inl (now, still, same), stores)) =
-        (says ∙ ap (λ i. Wrote (record { kind = Stored; moved = i })) still, subst (λ (v : State). Stores fingerprint v n x t) same stores)
+        (says ∙ ap (λ i. Wrote (record { kind = Stored; moved = i })) still, subst (λ (v : State). Stores print v n x t) same stores)
     as_stored Stored moved says (out, offered, (u, inr (unready, collects), stores)) = absurd (unready ready)
     as_stored Shared moved says (out, still, (q, f, offers, free, is')) = absurd (none q offers)
     as_stored Unchanged moved says (holds, still, same) = absurd (other holds)
-at_once fingerprint s n x inside whole ready other none a t (Err e, is, (same, inl (four, out))) = absurd (omega arith)
-at_once fingerprint s n x inside whole ready other none a t (Err e, is, (same, inr (inl (five, l, short)))) = absurd (short whole)
-at_once fingerprint s n x inside whole ready other none a t (Err e, is, (same, inr (inr why))) = absurd (why.5 ready)
+at_once print s n x inside whole ready other none a t (Err e, is, (same, inl (four, out))) = absurd (omega arith)
+at_once print s n x inside whole ready other none a t (Err e, is, (same, inr (inl (five, l, short)))) = absurd (short whole)
+at_once print s n x inside whole ready other none a t (Err e, is, (same, inr (inr why))) = absurd (why.5 ready)
 
 -- The step of a page that is stored at once.
-stored : (fingerprint : Bytes → ℕ) (s : State) (n : ℕ) (x : Bytes) (t : State) → n < host_pages s → length x ≡ 256 → Ready s
-    → (Holds s n x → ⊥) → NoneOffered fingerprint s x → Stores fingerprint s n x t → Step fingerprint s (write n x) (wrote_as Stored) t
-stored fingerprint s n x t inside whole ready other none stores =
+stored : (print : Bytes → ℕ) (s : State) (n : ℕ) (x : Bytes) (t : State) → n < host_pages s → length x ≡ 256 → Ready s
+    → (Holds s n x → ⊥) → NoneOffered print s x → Stores print s n x t → Step print s (write n x) (wrote_as Stored) t
+stored print s n x t inside whole ready other none stores =
     (Ok (record { kind = Stored; moved = 0 }), refl, (inside, whole, (other, none, (s, inl (ready, refl, refl), stores))))
 
 -- The states of the example, for any three pages Z, H and O. First the part: what is written in its first two blocks, and how
@@ -80,51 +79,51 @@ abbrev no_entries : List (Option Entry)
 no_entries = replicate 256 None
 
 abbrev entry_of : (Bytes → ℕ) → Bytes → ℕ → Option Entry
-entry_of fingerprint x q = Some (record { fingerprint = fingerprint x; page = q })
+entry_of print x q = Some (record { print = print x; page = q })
 
 -- .. and the states after the first write, the second and the third ..
 abbrev after_z : (Bytes → ℕ) → Bytes → State
-after_z fingerprint Z = record {
+after_z print Z = record {
   part = flash_of (Z ∷ []) [] 0;
   words = 0 ∷ 4095 ∷ 4095 ∷ [];
   shared = replicate 6 4095;
-  store = set no_entries 0 (entry_of fingerprint Z 0);
+  store = set no_entries 0 (entry_of print Z 0);
 }
 
 abbrev store_zh : (Bytes → ℕ) → Bytes → Bytes → List (Option Entry)
-store_zh fingerprint Z H = set (set no_entries 0 (entry_of fingerprint Z 0)) 1 (entry_of fingerprint H 1)
+store_zh print Z H = set (set no_entries 0 (entry_of print Z 0)) 1 (entry_of print H 1)
 
 abbrev after_h : (Bytes → ℕ) → Bytes → Bytes → State
-after_h fingerprint Z H = record {
+after_h print Z H = record {
   part = flash_of (Z ∷ H ∷ []) [] 0;
   words = 0 ∷ 1 ∷ 4095 ∷ [];
   shared = replicate 6 4095;
-  store = store_zh fingerprint Z H;
+  store = store_zh print Z H;
 }
 
 abbrev after_sharing : (Bytes → ℕ) → Bytes → Bytes → State
-after_sharing fingerprint Z H = record {
+after_sharing print Z H = record {
   part = flash_of (Z ∷ H ∷ []) [] 0;
   words = 4096 ∷ 1 ∷ 4096 ∷ [];
   shared = 0 ∷ replicate 5 4095;
-  store = store_zh fingerprint Z H;
+  store = store_zh print Z H;
 }
 
 -- .. after O was stored, and after the collection.
 abbrev after_o : (Bytes → ℕ) → Bytes → Bytes → Bytes → State
-after_o fingerprint Z H O = record {
+after_o print Z H O = record {
   part = flash_of (Z ∷ H ∷ []) (O ∷ []) 0;
   words = 4096 ∷ 2 ∷ 4096 ∷ [];
   shared = 0 ∷ replicate 5 4095;
-  store = set (set no_entries 0 (entry_of fingerprint Z 0)) 16 (entry_of fingerprint O 2);
+  store = set (set no_entries 0 (entry_of print Z 0)) 16 (entry_of print O 2);
 }
 
 abbrev after_collect : (Bytes → ℕ) → Bytes → Bytes → State
-after_collect fingerprint Z O = record {
+after_collect print Z O = record {
   part = flash_of [] (O ∷ Z ∷ []) 1;
   words = 4096 ∷ 2 ∷ 4096 ∷ [];
   shared = 3 ∷ replicate 5 4095;
-  store = set (set no_entries 0 (entry_of fingerprint Z 3)) 16 (entry_of fingerprint O 2);
+  store = set (set no_entries 0 (entry_of print Z 3)) 16 (entry_of print O 2);
 }
 
 -- An entry of a store with one more: the new one, or one that was there.
@@ -139,19 +138,19 @@ entry_alone p new inside k e is =
     ⊎_elim (λ same. same) (λ was. absurd (empty_store 256 k e was)) (entry_among no_entries p new inside k e is)
 
 -- A page y is not offered where every entry is that of one flash page, which has other bytes x ..
-others_content : (fingerprint : Bytes → ℕ) (s : State) (x y : Bytes) (q : ℕ)
+others_content : (print : Bytes → ℕ) (s : State) (x y : Bytes) (q : ℕ)
     → ((k : ℕ) (e : Entry) → entry_at s.store k ≡ Some e → e.page ≡ q) → content s.part q ≡ Some x → (x ≡ y → ⊥)
-    → NoneOffered fingerprint s y
-others_content fingerprint s x y q only has ne r (k, is, r_has) =
+    → NoneOffered print s y
+others_content print s x y q only has ne r (k, is, r_has) =
     ne (some_same (sym has ∙ ap (content s.part) (sym (only k _ is)) ∙ r_has))
   where
     some_same : Some x ≡ Some y → x ≡ y
     some_same e = cc
 
 -- .. nor where every entry has one fingerprint f, which is not y's.
-others_fingerprint : (fingerprint : Bytes → ℕ) (s : State) (y : Bytes) (f : ℕ)
-    → ((k : ℕ) (e : Entry) → entry_at s.store k ≡ Some e → e.fingerprint ≡ f) → (fingerprint y ≡ f → ⊥) → NoneOffered fingerprint s y
-others_fingerprint fingerprint s y f only ne r (k, is, r_has) = ne (only k _ is)
+others_print : (print : Bytes → ℕ) (s : State) (y : Bytes) (f : ℕ)
+    → ((k : ℕ) (e : Entry) → entry_at s.store k ≡ Some e → e.print ≡ f) → (print y ≡ f → ⊥) → NoneOffered print s y
+others_print print s y f only ne r (k, is, r_has) = ne (only k _ is)
 
 -- Empty is no content, and one content is not another.
 none_there : (x : Bytes) → None ≡ Some x → ⊥
@@ -161,8 +160,8 @@ other_there : (x y : Bytes) → (x ≡ y → ⊥) → Some x ≡ Some y → ⊥
 other_there x y ne e = ne (cc)
 
 -- The start: the part is well-formed and accepted, there are clean blocks enough to store a page, and the store is empty.
-start_made : (fingerprint : Bytes → ℕ) → Made fingerprint example_start
-start_made fingerprint =
+start_made : (print : Bytes → ℕ) → Made print example_start
+start_made print =
     inl (
       fresh_part,
       3,
@@ -177,8 +176,8 @@ start_made fingerprint =
 start_ready : Ready example_start
 start_ready = inr (lit≤ tt)
 
-start_none_offered : (fingerprint : Bytes → ℕ) (x : Bytes) → NoneOffered fingerprint example_start x
-start_none_offered fingerprint x q (k, is, has) = empty_store 256 k _ is
+start_none_offered : (print : Bytes → ℕ) (x : Bytes) → NoneOffered print example_start x
+start_none_offered print x q (k, is, has) = empty_store 256 k _ is
 
 -- Where none of three blocks is part-written, one that is clean and was never erased may take the next page.
 takes_fresh : (s : State) (b : ℕ) → length s.part.blocks ≡ 3 → is_part_written s 0 ≡ false → is_part_written s 1 ≡ false
@@ -189,35 +188,35 @@ takes_fresh s b three p q r inside clean never =
     none : (c : ℕ) → c < 3 → is_part_written s c ≡ true → ⊥
     none = below_three (λ c. is_part_written s c ≡ true → ⊥) (both_ways _ p) (both_ways _ q) (both_ways _ r)
 
-module _ (fingerprint : Bytes → ℕ) (Z H O : Bytes) (z_long : length Z ≡ 256) (h_long : length H ≡ 256) (o_long : length O ≡ 256)
-    (z_fingerprint : fingerprint Z ≡ 0) (h_fingerprint : fingerprint H ≡ 0) (o_fingerprint : fingerprint O ≡ 8388609)
+module _ (print : Bytes → ℕ) (Z H O : Bytes) (z_long : length Z ≡ 256) (h_long : length H ≡ 256) (o_long : length O ≡ 256)
+    (z_print : print Z ≡ 0) (h_print : print H ≡ 0) (o_print : print O ≡ 8388609)
     (z_h : Z ≡ H → ⊥) (h_o : H ≡ O → ⊥) where
   -- Z goes to block 0, and its entry to the first place of segment 0 ..
-  z_stored : Step fingerprint example_start (write 0 Z) (wrote_as Stored) (after_z fingerprint Z)
+  z_stored : Step print example_start (write 0 Z) (wrote_as Stored) (after_z print Z)
   z_stored =
-      stored fingerprint example_start 0 Z (after_z fingerprint Z) (lit< tt) z_long start_ready (none_there Z) (start_none_offered fingerprint Z) (
+      stored print example_start 0 Z (after_z print Z) (lit< tt) z_long start_ready (none_there Z) (start_none_offered print Z) (
         0,
-        set no_entries 0 (entry_of fingerprint Z 0),
+        set no_entries 0 (entry_of print Z 0),
         takes_fresh example_start 0 refl refl refl refl (lit< tt) refl refl,
-        takes 0 (lit< tt, ap (λ i. i % 16) (sym z_fingerprint)) refl refl,
+        takes 0 (lit< tt, ap (λ i. i % 16) (sym z_print)) refl refl,
         refl,
       )
 
   -- .. H beside it, to the second place ..
-  h_stored : Step fingerprint (after_z fingerprint Z) (write 1 H) (wrote_as Stored) (after_h fingerprint Z H)
+  h_stored : Step print (after_z print Z) (write 1 H) (wrote_as Stored) (after_h print Z H)
   h_stored =
-      stored fingerprint (after_z fingerprint Z) 1 H (after_h fingerprint Z H) (lit< tt) h_long (inl (0, lit< tt, refl)) (none_there H)
-      (others_content fingerprint (after_z fingerprint Z) Z H 0 (λ k e is. ap (λ (d : Entry). d.page) (entry_alone 0 _ (lit< tt) k e is)) refl z_h)
-      (0, store_zh fingerprint Z H, (lit< tt, inl refl), takes 1 (lit< tt, ap (λ i. i % 16) (sym h_fingerprint)) refl refl, refl)
+      stored print (after_z print Z) 1 H (after_h print Z H) (lit< tt) h_long (inl (0, lit< tt, refl)) (none_there H)
+      (others_content print (after_z print Z) Z H 0 (λ k e is. ap (λ (d : Entry). d.page) (entry_alone 0 _ (lit< tt) k e is)) refl z_h)
+      (0, store_zh print Z H, (lit< tt, inl refl), takes 1 (lit< tt, ap (λ i. i % 16) (sym h_print)) refl refl, refl)
 
   -- .. Z is shared through entry 0, for no entry names a page ..
-  no_entry : (d : ℕ) → names (after_h fingerprint Z H) (4096 + d) ≡ 0 → ⊥
+  no_entry : (d : ℕ) → names (after_h print Z H) (4096 + d) ≡ 0 → ⊥
   no_entry d is =
       let none : ◌≡◌ {A = ℕ} 4095 0 =
-      sym (name_entry (after_h fingerprint Z H).words (replicate 6 4095) (4096 + d) (omega arith) ∙ get_d_all 6 (4096 + d - 4096) 4095) ∙ is in
+      sym (name_entry (after_h print Z H).words (replicate 6 4095) (4096 + d) (omega arith) ∙ get_d_all 6 (4096 + d - 4096) 4095) ∙ is in
       omega arith
 
-  z_shared : Step fingerprint (after_h fingerprint Z H) (write 2 Z) (wrote_as Shared) (after_sharing fingerprint Z H)
+  z_shared : Step print (after_h print Z H) (write 2 Z) (wrote_as Shared) (after_sharing print Z H)
   z_shared = (
     Ok (record { kind = Shared; moved = 0 }),
     refl,
@@ -228,44 +227,44 @@ module _ (fingerprint : Bytes → ℕ) (Z H O : Bytes) (z_long : length Z ≡ 25
     ),
   )
 
-  z_unchanged : Step fingerprint (after_sharing fingerprint Z H) (write 0 Z) (wrote_as Unchanged) (after_sharing fingerprint Z H)
+  z_unchanged : Step print (after_sharing print Z H) (write 0 Z) (wrote_as Unchanged) (after_sharing print Z H)
   z_unchanged = (Ok (record { kind = Unchanged; moved = 0 }), refl, (lit< tt, z_long, (refl, refl, refl)))
 
   -- .. and O goes to block 1, clean like block 2, and its entry to the first place of segment 1; H's page dies.
-  fingerprints_zero : (k : ℕ) (e : Entry) → entry_at (store_zh fingerprint Z H) k ≡ Some e → e.fingerprint ≡ 0
-  fingerprints_zero k e is =
-      ⊎_elim (λ new. ap (λ (d : Entry). d.fingerprint) new ∙ h_fingerprint)
-      (λ was. ap (λ (d : Entry). d.fingerprint) (entry_alone 0 _ (lit< tt) k e was) ∙ z_fingerprint)
-      (entry_among (set no_entries 0 (entry_of fingerprint Z 0)) 1 _ (lit< tt) k e is)
+  prints_zero : (k : ℕ) (e : Entry) → entry_at (store_zh print Z H) k ≡ Some e → e.print ≡ 0
+  prints_zero k e is =
+      ⊎_elim (λ new. ap (λ (d : Entry). d.print) new ∙ h_print)
+      (λ was. ap (λ (d : Entry). d.print) (entry_alone 0 _ (lit< tt) k e was) ∙ z_print)
+      (entry_among (set no_entries 0 (entry_of print Z 0)) 1 _ (lit< tt) k e is)
 
-  o_stored : Step fingerprint (after_sharing fingerprint Z H) (write 1 O) (wrote_as Stored) (after_o fingerprint Z H O)
+  o_stored : Step print (after_sharing print Z H) (write 1 O) (wrote_as Stored) (after_o print Z H O)
   o_stored =
-      stored fingerprint (after_sharing fingerprint Z H) 1 O (after_o fingerprint Z H O) (lit< tt) o_long (inr (lit≤ tt)) (other_there H O h_o)
-      (others_fingerprint fingerprint (after_sharing fingerprint Z H) O 0 fingerprints_zero (λ e. omega arith)) (
+      stored print (after_sharing print Z H) 1 O (after_o print Z H O) (lit< tt) o_long (inr (lit≤ tt)) (other_there H O h_o)
+      (others_print print (after_sharing print Z H) O 0 prints_zero (λ e. omega arith)) (
         1,
-        set (store_zh fingerprint Z H) 16 (entry_of fingerprint O 2),
-        takes_fresh (after_sharing fingerprint Z H) 1 refl refl refl refl (lit< tt) refl refl,
-        takes 16 (lit< tt, ap (λ i. i % 16) (sym o_fingerprint)) refl refl,
+        set (store_zh print Z H) 16 (entry_of print O 2),
+        takes_fresh (after_sharing print Z H) 1 refl refl refl refl (lit< tt) refl refl,
+        takes 16 (lit< tt, ap (λ i. i % 16) (sym o_print)) refl refl,
         refl,
       )
 
-  two_live : Step fingerprint (after_o fingerprint Z H O) usage (Used (record { live = 2; dead = 1; unwritten = 3 })) (after_o fingerprint Z H O)
+  two_live : Step print (after_o print Z H O) usage (Used (record { live = 2; dead = 1; unwritten = 3 })) (after_o print Z H O)
   two_live = (Ok (record { live = 2; dead = 1; unwritten = 3 }), refl, (refl, refl, refl, refl))
 
   -- Block 0 is the one closed block; its page in use, Z, is moved to the part-written block 1.
-  first_victim : Victim (after_o fingerprint Z H O) 0
+  first_victim : Victim (after_o print Z H O) 0
   first_victim = (
     ((lit< tt, refl, lit< tt), lit< tt),
-    λ b c. below_three (λ i. is_closed (after_o fingerprint Z H O) i ≡ true → 1 ≤ live_in (after_o fingerprint Z H O) i)
+    λ b c. below_three (λ i. is_closed (after_o print Z H O) i ≡ true → 1 ≤ live_in (after_o print Z H O) i)
         (λ t. lit≤ tt) (λ t. lit≤ tt) (λ t. absurd (both_ways false refl t)) b c.0.0 c.0.1,
   )
 
-  z_moved : Step fingerprint (after_o fingerprint Z H O) collect (PagesMoved 1) (after_collect fingerprint Z O)
+  z_moved : Step print (after_o print Z H O) collect (Number 1) (after_collect print Z O)
   z_moved =
-      (Ok 1, refl, (0, first_victim, refl, (moved_to (after_o fingerprint Z H O) 0 1, (1, (lit< tt, inl refl), refl), refl)))
+      (Ok 1, refl, (0, first_victim, refl, (moved_to (after_o print Z H O) 0 1, (1, (lit< tt, inl refl), refl), refl)))
 
   -- Then block 1 is the one closed block, and has no dead page.
-  none_dead : Step fingerprint (after_collect fingerprint Z O) collect (Refused NothingToCollect) (after_collect fingerprint Z O)
+  none_dead : Step print (after_collect print Z O) collect (Refused NothingToCollect) (after_collect print Z O)
   none_dead = (
     Err NothingToCollect,
     refl,
@@ -274,30 +273,30 @@ module _ (fingerprint : Bytes → ℕ) (Z H O : Bytes) (z_long : length Z ≡ 25
       inl (
         refl,
         λ b c. below_three
-            (λ i. is_closed (after_collect fingerprint Z O) i ≡ true → 0 < dead_in (after_collect fingerprint Z O) i → ⊥)
+            (λ i. is_closed (after_collect print Z O) i ≡ true → 0 < dead_in (after_collect print Z O) i → ⊥)
             (λ t d. both_ways false refl t) (λ t d. omega arith) (λ t d. both_ways false refl t) b c.0 c.1 c.2,
       ),
     ),
   )
 
-  z_read : Step fingerprint (after_collect fingerprint Z O) (read 2 256) (Page Z) (after_collect fingerprint Z O)
-  z_read = (Ok tt, replicate 256 0, Z, refl, refl, (refl, lit< tt, refl, refl))
+  z_read : Step print (after_collect print Z O) (read 2 256) (Page Z) (after_collect print Z O)
+  z_read = (Ok Z, refl, (refl, lit< tt, refl, refl))
 
-  later : Run fingerprint (after_o fingerprint Z H O)
+  later : Run print (after_o print Z H O)
       ((usage, Used (record { live = 2; dead = 1; unwritten = 3 }))
-      ∷ (collect, PagesMoved 1) ∷ (collect, Refused NothingToCollect) ∷ (read 2 256, Page Z) ∷ [])
-      (after_collect fingerprint Z O)
+      ∷ (collect, Number 1) ∷ (collect, Refused NothingToCollect) ∷ (read 2 256, Page Z) ∷ [])
+      (after_collect print Z O)
   later = (_, two_live, (_, z_moved, (_, none_dead, (_, z_read, refl))))
 
-  life : Run fingerprint example_start
+  life : Run print example_start
       ((write 0 Z, wrote_as Stored)
       ∷ (write 1 H, wrote_as Stored)
       ∷ (write 2 Z, wrote_as Shared)
       ∷ (write 0 Z, wrote_as Unchanged)
       ∷ (write 1 O, wrote_as Stored)
       ∷ (usage, Used (record { live = 2; dead = 1; unwritten = 3 }))
-      ∷ (collect, PagesMoved 1) ∷ (collect, Refused NothingToCollect) ∷ (read 2 256, Page Z) ∷ [])
-      (after_collect fingerprint Z O)
+      ∷ (collect, Number 1) ∷ (collect, Refused NothingToCollect) ∷ (read 2 256, Page Z) ∷ [])
+      (after_collect print Z O)
   life = (_, z_stored, (_, h_stored, (_, z_shared, (_, z_unchanged, (_, o_stored, later)))))
 
 -- The first bytes of the example's pages differ.
@@ -310,7 +309,7 @@ full_one e = let first : ◌≡◌ {A = ℕ} 255 1 = ap (λ (x : Bytes). get_or 
 pub example_life : ExampleLife
 example_life = (
   record {
-    fingerprint = fletcher_of;
+    print = fletcher_of;
     start = example_start;
     made = start_made fletcher_of;
     history = example_history;
@@ -328,45 +327,45 @@ z_in Z b store =
     repoint (programmed example_start b Z store)
     0 (next_page example_start b)
 
-module _ (fingerprint : Bytes → ℕ) (Z H : Bytes) (z_long : length Z ≡ 256) (h_long : length H ≡ 256) (z_h : Z ≡ H → ⊥) where
+module _ (print : Bytes → ℕ) (Z H : Bytes) (z_long : length Z ≡ 256) (h_long : length H ≡ 256) (z_h : Z ≡ H → ⊥) where
   -- H is stored where a block is part-written, host page 1 is empty, and the store has at most an entry of Z's page q ..
   h_decided : (m : State) (q : ℕ) → 1 < host_pages m → HasPartWritten m → held m 1 ≡ None → content m.part q ≡ Some Z
       → ((k : ℕ) (e : Entry) → entry_at m.store k ≡ Some e → e.page ≡ q)
-      → (b : Answer) (t : State) → Step fingerprint m (write 1 H) b t → b ≡ wrote_as Stored
+      → (b : Answer) (t : State) → Step print m (write 1 H) b t → b ≡ wrote_as Stored
   h_decided m q inside part empty has only b t step =
-      (at_once fingerprint m 1 H inside h_long (inl part) (λ holds. none_there H (sym empty ∙ holds))
-      (others_content fingerprint m Z H q only has z_h) b t step).0
+      (at_once print m 1 H inside h_long (inl part) (λ holds. none_there H (sym empty ∙ holds))
+      (others_content print m Z H q only has z_h) b t step).0
 
   -- .. and so it is in whichever block Z went.
   h_decided_in : (b : ℕ) → b < 3 → (store : List (Option Entry))
       → ((k : ℕ) (e : Entry) → entry_at store k ≡ Some e → e.page ≡ next_page example_start b)
-      → (a : Answer) (t : State) → Step fingerprint (z_in Z b store) (write 1 H) a t → a ≡ wrote_as Stored
+      → (a : Answer) (t : State) → Step print (z_in Z b store) (write 1 H) a t → a ≡ wrote_as Stored
   h_decided_in =
       below_three
       (λ b. (store : List (Option Entry)) → ((k : ℕ) (e : Entry) → entry_at store k ≡ Some e → e.page ≡ next_page example_start b)
-      → (a : Answer) (t : State) → Step fingerprint (z_in Z b store) (write 1 H) a t → a ≡ wrote_as Stored)
+      → (a : Answer) (t : State) → Step print (z_in Z b store) (write 1 H) a t → a ≡ wrote_as Stored)
       (λ store. h_decided (z_in Z 0 store) 0 (lit< tt) (0, lit< tt, refl) refl refl)
       (λ store. h_decided (z_in Z 1 store) 2 (lit< tt) (1, lit< tt, refl) refl refl)
       (λ store. h_decided (z_in Z 2 store) 4 (lit< tt) (2, lit< tt, refl) refl refl)
 
   -- The store after the first write has at most an entry of Z's page.
-  one_page : (q : ℕ) (store : List (Option Entry)) → Entered (hotness example_start) no_entries (record { fingerprint = fingerprint Z; page = q }) 1 store
+  one_page : (q : ℕ) (store : List (Option Entry)) → Entered (hotness example_start) no_entries (record { print = print Z; page = q }) 1 store
       → (k : ℕ) (e : Entry) → entry_at store k ≡ Some e → e.page ≡ q
   one_page q store entered k e has =
       ⊎_elim
       (λ same. absurd (empty_store 256 k e (ap (λ (y : List (Option Entry)). entry_at y k) (sym same) ∙ has)))
       (λ p. ap (λ (d : Entry). d.page)
-      (entry_alone p.0 (record { fingerprint = fingerprint Z; page = q }) p.1.0 k e
+      (entry_alone p.0 (record { print = print Z; page = q }) p.1.0 k e
       (ap (λ (y : List (Option Entry)). entry_at y k) (sym p.2) ∙ has)))
-      (entered_cases (hotness example_start) no_entries (record { fingerprint = fingerprint Z; page = q }) 1 store entered)
+      (entered_cases (hotness example_start) no_entries (record { print = print Z; page = q }) 1 store entered)
 
-  second_write : (a b : Answer) (m t : State) → Step fingerprint example_start (write 0 Z) a m → Step fingerprint m (write 1 H) b t
+  second_write : (a b : Answer) (m t : State) → Step print example_start (write 0 Z) a m → Step print m (write 1 H) b t
       → b ≡ wrote_as Stored
   second_write a b m t first second =
       let (i, store, took, entered, is) =
-      (at_once fingerprint example_start 0 Z (lit< tt) z_long start_ready (none_there Z) (start_none_offered fingerprint Z) a m first).1 in
+      (at_once print example_start 0 Z (lit< tt) z_long start_ready (none_there Z) (start_none_offered print Z) a m first).1 in
       h_decided_in i took.0 store (one_page (next_page example_start i) store entered) b t
-      (subst (λ (v : State). Step fingerprint v (write 1 H) b t) is second)
+      (subst (λ (v : State). Step print v (write 1 H) b t) is second)
 
 pub second_write_decided : SecondWriteDecided
 second_write_decided = second_write fletcher_of zeros starts_with_two_full refl refl zeros_full

@@ -1,6 +1,5 @@
 -- The rule of each call: which answer it gives in a state, and the state after it.
-use Rattle.std.specs.Prelude.{◌≡◌, ℕ, zero, suc, ◌+◌, ◌*◌, ◌<◌, ◌≤◌, Bool, true, cond, ◌⊎◌, List, [], ◌∷◌, ◌++◌, length, drop, is_some, Some, None, Ok, Err, Option, Result, ◌≢◌}
-use Rattle.page.specs.Size.{page_size}
+use Rattle.std.specs.Prelude.{◌≡◌, ℕ, zero, suc, ◌+◌, ◌*◌, ◌<◌, ◌≤◌, Bool, true, cond, ◌⊎◌, List, [], ◌∷◌, ◌++◌, length, is_some, Some, None, Ok, Err, Option, Result, ◌≢◌}
 use Rattle.flash.specs.Part.{erases}
 use Rattle.rules.specs.declared.refusal.Refusal.{Refusal}
 use Rattle.rules.specs.declared.kind.Kind.{Kind}
@@ -8,11 +7,9 @@ use Rattle.rules.specs.declared.kind.Kind.TheVariants.{Stored, Shared, Unchanged
 use Rattle.rules.specs.declared.answer.Written.{Written}
 use Rattle.rules.specs.declared.answer.Usage.{Usage}
 use Rattle.rules.specs.Numbers.{refusal_number}
-use Rattle.rules.specs.declared.entry.Entry.{Entry}
-use Rattle.rules.specs.State.{Bytes, State, no_page, tally, block_count, per_block, flash_pages, host_pages, content, in_use, is_dead, hotness, is_clean, is_closed, is_part_written, clean_blocks, in_use_at, live_in, live_pages, dead_pages, unwritten_pages, held}
+use Rattle.rules.specs.State.{Bytes, Entry, State, no_page, tally, block_count, per_block, flash_pages, host_pages, content, in_use, is_dead, hotness, is_clean, is_closed, is_part_written, clean_blocks, in_use_at, live_in, live_pages, dead_pages, unwritten_pages, held}
 use Rattle.rules.specs.Tables.{repoint, EntryFor, lifted, merged, next_page, programmed, moved_to, erased_block}
 use Rattle.rules.specs.Store.{Entered, Offers}
-use Rattle.rules.specs.Image.{image_length}
 
 -- Some block is part-written.
 abbrev pub HasPartWritten : State → Type 0
@@ -82,9 +79,9 @@ Readied s moved u = (Ready s × (moved ≡ 0) × (u ≡ s)) ⊎ ((Ready s → �
 -- The bytes x are stored as host page n: programmed, entered in the store with hotness 1 while the old reference still
 -- counts, then named by n's word, and last the old reference is let go.
 abbrev pub Stores : (Bytes → ℕ) → State → ℕ → Bytes → State → Type 0
-Stores fingerprint s n x t =
+Stores print s n x t =
     (b : ℕ) × (after : List (Option Entry)) × Takes s b
-    × Entered (hotness s) s.store (record { fingerprint = fingerprint x; page = next_page s b }) 1 after
+    × Entered (hotness s) s.store (record { print = print x; page = next_page s b }) 1 after
     × (t ≡ repoint (programmed s b x after) n (next_page s b))
 
 -- Host page n holds just the bytes x.
@@ -93,16 +90,16 @@ Holds s n x = held s n ≡ Some x
 
 -- No entry of the store has the fingerprint of x on a page with equal bytes.
 abbrev pub NoneOffered : (Bytes → ℕ) → State → Bytes → Type 0
-NoneOffered fingerprint s x = (q : ℕ) → Offers fingerprint s x q → ⊥
+NoneOffered print s x = (q : ℕ) → Offers print s x q → ⊥
 
 -- The three kinds of an accepted write, the first that applies.
 abbrev pub WritesAs : (Bytes → ℕ) → State → ℕ → Bytes → Kind → ℕ → State → Type 0
-WritesAs fingerprint s n x Unchanged moved t = Holds s n x × (moved ≡ 0) × (t ≡ s)
-WritesAs fingerprint s n x Shared moved t =
+WritesAs print s n x Unchanged moved t = Holds s n x × (moved ≡ 0) × (t ≡ s)
+WritesAs print s n x Shared moved t =
     (Holds s n x → ⊥) × (moved ≡ 0)
-    × ((q : ℕ) × (e : ℕ) × Offers fingerprint s x q × EntryFor s q e × (t ≡ repoint (lifted s q e) n (4096 + e)))
-WritesAs fingerprint s n x Stored moved t =
-    (Holds s n x → ⊥) × NoneOffered fingerprint s x × ((u : State) × Readied s moved u × Stores fingerprint u n x t)
+    × ((q : ℕ) × (e : ℕ) × Offers print s x q × EntryFor s q e × (t ≡ repoint (lifted s q e) n (4096 + e)))
+WritesAs print s n x Stored moved t =
+    (Holds s n x → ⊥) × NoneOffered print s x × ((u : State) × Readied s moved u × Stores print u n x t)
 
 -- Refused with 4: there is no host page n.
 abbrev pub NoHostPage : State → ℕ → Refusal → Type 0
@@ -110,29 +107,27 @@ NoHostPage s n e = (refusal_number e ≡ 4) × (host_pages s ≤ n)
 
 -- Refused with 5: host page n is there, and what was given is not 256 bytes long.
 abbrev pub WrongLength : State → ℕ → ℕ → Refusal → Type 0
-WrongLength s n len e = (refusal_number e ≡ 5) × (n < host_pages s) × (len ≢ page_size)
+WrongLength s n len e = (refusal_number e ≡ 5) × (n < host_pages s) × (len ≢ 256)
 
 -- Refused with 6: host page n is there, the length is right, and the page is empty.
 abbrev pub EmptyPage : State → ℕ → ℕ → Refusal → Type 0
-EmptyPage s n len e = (refusal_number e ≡ 6) × (n < host_pages s) × (len ≡ page_size) × (held s n ≡ None)
+EmptyPage s n len e = (refusal_number e ≡ 6) × (n < host_pages s) × (len ≡ 256) × (held s n ≡ None)
 
 -- Refused with 3: the bytes would have to be stored, no block is ready for them, and none can be collected.
 abbrev pub NoRoom : (Bytes → ℕ) → State → ℕ → Bytes → Refusal → Type 0
-NoRoom fingerprint s n x e =
-    (refusal_number e ≡ 3) × (n < host_pages s) × (length x ≡ page_size) × (Holds s n x → ⊥) × NoneOffered fingerprint s x
+NoRoom print s n x e =
+    (refusal_number e ≡ 3) × (n < host_pages s) × (length x ≡ 256) × (Holds s n x → ⊥) × NoneOffered print s x
     × (Ready s → ⊥) × ((b : ℕ) → Candidate s b → ⊥)
 
 -- Write answers the kind and the pages moved, or refuses.
 abbrev pub Writes : (Bytes → ℕ) → State → ℕ → Bytes → Result Written Refusal → State → Type 0
-Writes fingerprint s n x (Ok w) t = (n < host_pages s) × (length x ≡ page_size) × WritesAs fingerprint s n x w.kind w.moved t
-Writes fingerprint s n x (Err e) t = (t ≡ s) × (NoHostPage s n e ⊎ (WrongLength s n (length x) e ⊎ NoRoom fingerprint s n x e))
+Writes print s n x (Ok w) t = (n < host_pages s) × (length x ≡ 256) × WritesAs print s n x w.kind w.moved t
+Writes print s n x (Err e) t = (t ≡ s) × (NoHostPage s n e ⊎ (WrongLength s n (length x) e ⊎ NoRoom print s n x e))
 
--- Read fills the buffer with what host page n holds, or refuses and leaves it as it was; `before` and `after` are all its bytes.
-abbrev pub Reads : State → ℕ → Bytes → Result (Unit {0}) Refusal → State → Bytes → Type 0
-Reads s n before (Ok u) t after = (t ≡ s) × (n < host_pages s) × (length before ≡ page_size) × (held s n ≡ Some after)
-Reads s n before (Err e) t after =
-    (t ≡ s) × (after ≡ before)
-    × (NoHostPage s n e ⊎ (WrongLength s n (length before) e ⊎ EmptyPage s n (length before) e))
+-- Read gives what host page n holds, or refuses; `len` is the length of the buffer.
+abbrev pub Reads : State → ℕ → ℕ → Result Bytes Refusal → State → Type 0
+Reads s n len (Ok x) t = (t ≡ s) × (n < host_pages s) × (len ≡ 256) × (held s n ≡ Some x)
+Reads s n len (Err e) t = (t ≡ s) × (NoHostPage s n e ⊎ (WrongLength s n len e ⊎ EmptyPage s n len e))
 
 -- Trim empties host page n, and answers 1 if it had content, else 0; or it refuses.
 abbrev pub Trims : State → ℕ → Result ℕ Refusal → State → Type 0
@@ -160,15 +155,3 @@ Scans s (Err e) t = ⊥
 abbrev pub Asks : State → Result Usage Refusal → State → Type 0
 Asks s (Ok u) t = (t ≡ s) × (u.live ≡ live_pages s) × (u.dead ≡ dead_pages s) × (u.unwritten ≡ unwritten_pages s)
 Asks s (Err e) t = ⊥
-
--- The length of a device's image, in bytes.
-abbrev pub saved_length : State → ℕ
-saved_length s = image_length (block_count s) (per_block s) (host_pages s)
-
--- Save answers the length of the image, which then stands at the front of the buffer, and leaves every byte after it; it refuses
--- with 8 if the buffer is shorter, and leaves it as it was. Not yet whole: which bytes stand at the front is not said here
--- before the bytes of an image are defined.
-abbrev pub Saves : State → Bytes → Result ℕ Refusal → State → Bytes → Type 0
-Saves s before (Ok size) t after =
-    (t ≡ s) × (size ≡ saved_length s) × (size ≤ length before) × (length after ≡ length before) × (drop size after ≡ drop size before)
-Saves s before (Err e) t after = (t ≡ s) × (after ≡ before) × (refusal_number e ≡ 8) × (length before < saved_length s)

@@ -7,7 +7,7 @@ use Rattle.rules.specs.declared.refusal.Refusal.TheVariants.{NothingToCollect}
 use Rattle.rules.specs.declared.kind.Kind.{Kind}
 use Rattle.rules.specs.declared.kind.Kind.TheVariants.{Stored, Shared, Unchanged}
 use Rattle.rules.specs.declared.answer.Answer.{Answer}
-use Rattle.rules.specs.declared.answer.Answer.TheVariants.{Refused, Wrote, Page, PagesMoved, Used}
+use Rattle.rules.specs.declared.answer.Answer.TheVariants.{Refused, Wrote, Page, Number, Used}
 use Rattle.rules.specs.State.{State}
 use Rattle.rules.specs.Making.{size_refusal, formatted}
 use Rattle.rules.specs.Image.{image_of, image_length}
@@ -57,7 +57,7 @@ example_history =
     ∷ (write 1 starts_with_one, wrote_as Stored)
     ∷ (usage, Used (record { live = 2; dead = 1; unwritten = 3 }))
     -- The block of Z and H is collected: Z is moved. Then no page is dead.
-    ∷ (collect, PagesMoved 1)
+    ∷ (collect, Number 1)
     ∷ (collect, Refused NothingToCollect)
     -- Host page 2 still reads Z.
     ∷ (read 2 256, Page zeros)
@@ -65,7 +65,7 @@ example_history =
 
 -- The rules allow this history: some life, with Fletcher's fingerprint, starts with that device and has it.
 abbrev pub ExampleLife : Type 0
-ExampleLife = (l : Life) × (l.fingerprint ≡ fletcher_of) × (l.start ≡ example_start) × (l.history ≡ example_history)
+ExampleLife = (l : Life) × (l.print ≡ fletcher_of) × (l.start ≡ example_start) × (l.history ≡ example_history)
 
 -- The second answer is forced: however the first write went, H is programmed. It has Z's fingerprint but other bytes, and
 -- is not taken for Z.

@@ -1,6 +1,6 @@
 pub mod Numbers
+pub mod Words
 pub mod State
-pub mod Devices
 pub mod Tables
 pub mod Store
 pub mod Calls

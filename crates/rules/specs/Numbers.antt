@@ -1,7 +1,7 @@
 -- The number of each refusal and of each kind of accepted write.
 use Rattle.std.specs.Prelude.{ℕ}
 use Rattle.rules.specs.declared.refusal.Refusal.{Refusal}
-use Rattle.rules.specs.declared.refusal.Refusal.TheVariants.{Geometry, HostPages, WornOut, NoSuchHostPage, Length, Empty, NothingToCollect, ShortBuffer, ImageLength, BlockCheck, BlockHead, WordRange, FlashDiffers, Contradiction, FlashState, NoMemory}
+use Rattle.rules.specs.declared.refusal.Refusal.TheVariants.{Geometry, HostPages, WornOut, NoSuchPage, Length, Empty, NothingToCollect, ShortBuffer, ImageLength, BlockCheck, BlockHead, WordRange, FlashDiffers, Contradiction, FlashState, NoMemory}
 use Rattle.rules.specs.declared.kind.Kind.{Kind}
 use Rattle.rules.specs.declared.kind.Kind.TheVariants.{Stored, Shared, Unchanged}
 
@@ -10,7 +10,7 @@ abbrev pub refusal_number : Refusal → ℕ
 refusal_number Geometry = 1
 refusal_number HostPages = 2
 refusal_number WornOut = 3
-refusal_number NoSuchHostPage = 4
+refusal_number NoSuchPage = 4
 refusal_number Length = 5
 refusal_number Empty = 6
 refusal_number NothingToCollect = 7

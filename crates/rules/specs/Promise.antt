@@ -4,7 +4,7 @@ use Rattle.flash.specs.Part.{wear}
 use Rattle.page.specs.Same.{same_bytes}
 use Rattle.rules.specs.declared.answer.Usage.{Usage}
 use Rattle.rules.specs.declared.answer.Answer.{Answer}
-use Rattle.rules.specs.declared.answer.Answer.TheVariants.{Refused, Wrote, Page, Trimmed, PagesMoved, PagesDied, Used, Saved}
+use Rattle.rules.specs.declared.answer.Answer.TheVariants.{Refused, Wrote, Page, Number, Used}
 use Rattle.rules.specs.Numbers.{refusal_number, kind_number}
 use Rattle.rules.specs.State.{Bytes, State, live_pages, page_map}
 use Rattle.rules.specs.Runs.{Call, Step, Life}
@@ -22,11 +22,8 @@ abbrev pub seen : Answer → Seen
 seen (Refused e) = refused (refusal_number e)
 seen (Wrote w) = accepted
 seen (Page x) = bytes x
-seen (Trimmed k) = number k
-seen (PagesMoved k) = number k
-seen (PagesDied k) = number k
+seen (Number k) = number k
 seen (Used u) = accepted
-seen (Saved k) = number k
 
 -- Reads, writes and trims are the host's calls.
 abbrev pub is_host : Call → Bool
@@ -37,16 +34,6 @@ is_host collect = false
 is_host scan = false
 is_host usage = false
 is_host (save len) = false
-
--- Is a call a write?
-abbrev pub is_write : Call → Bool
-is_write (write n x) = true
-is_write (read n len) = false
-is_write (trim n) = false
-is_write collect = false
-is_write scan = false
-is_write usage = false
-is_write (save len) = false
 
 -- The host's calls of a history with their answers, in order.
 abbrev pub host_calls : List (Call × Answer) → List (Call × Answer)
@@ -62,43 +49,50 @@ SameAnswers (h ∷ hs) (k ∷ ks) =
     h.0 ≡ k.0 → (seen h.1 ≢ refused 3) → (seen k.1 ≢ refused 3)
     → (seen h.1 ≡ seen k.1) × SameAnswers hs ks
 
--- Pages that one call stored: 1 for a write answered with kind 0. Only a write is answered with `Wrote`.
-abbrev pub stored_by : Answer → ℕ
-stored_by (Refused e) = 0
-stored_by (Wrote w) = cond (kind_number w.kind == 0) 1 0
-stored_by (Page x) = 0
-stored_by (Trimmed k) = 0
-stored_by (PagesMoved k) = 0
-stored_by (PagesDied k) = 0
-stored_by (Used u) = 0
-stored_by (Saved k) = 0
+-- Pages that one call stored: 1 for a write answered with kind 0.
+abbrev pub stored_by : Call → Answer → ℕ
+stored_by (write n x) (Wrote w) = cond (kind_number w.kind == 0) 1 0
+stored_by (write n x) (Refused e) = 0
+stored_by (write n x) (Page y) = 0
+stored_by (write n x) (Number k) = 0
+stored_by (write n x) (Used u) = 0
+stored_by (read n len) a = 0
+stored_by (trim n) a = 0
+stored_by collect a = 0
+stored_by scan a = 0
+stored_by usage a = 0
+stored_by (save len) a = 0
 
--- Pages that one call moved, as an accepted write or collect answers it. Only a collect is answered with `PagesMoved`.
-abbrev pub moved_by : Answer → ℕ
-moved_by (Refused e) = 0
-moved_by (Wrote w) = w.moved
-moved_by (Page x) = 0
-moved_by (Trimmed k) = 0
-moved_by (PagesMoved k) = k
-moved_by (PagesDied k) = 0
-moved_by (Used u) = 0
-moved_by (Saved k) = 0
+-- Pages that one call moved, as an accepted write or collect answers it.
+abbrev pub moved_by : Call → Answer → ℕ
+moved_by (write n x) (Wrote w) = w.moved
+moved_by (write n x) (Refused e) = 0
+moved_by (write n x) (Page y) = 0
+moved_by (write n x) (Number k) = 0
+moved_by (write n x) (Used u) = 0
+moved_by (read n len) a = 0
+moved_by (trim n) a = 0
+moved_by collect (Number k) = k
+moved_by collect (Refused e) = 0
+moved_by collect (Wrote w) = 0
+moved_by collect (Page y) = 0
+moved_by collect (Used u) = 0
+moved_by scan a = 0
+moved_by usage a = 0
+moved_by (save len) a = 0
 
 -- Pages stored and moved over a history.
 abbrev pub stored_and_moved : List (Call × Answer) → ℕ
 stored_and_moved [] = 0
-stored_and_moved (h ∷ hs) = (stored_by h.1 + moved_by h.1) + stored_and_moved hs
+stored_and_moved (h ∷ hs) = (stored_by h.0 h.1 + moved_by h.0 h.1) + stored_and_moved hs
 
 -- Is an answer a refusal?
 abbrev pub is_refusal : Answer → Bool
 is_refusal (Refused e) = true
 is_refusal (Wrote w) = false
 is_refusal (Page x) = false
-is_refusal (Trimmed k) = false
-is_refusal (PagesMoved k) = false
-is_refusal (PagesDied k) = false
+is_refusal (Number k) = false
 is_refusal (Used u) = false
-is_refusal (Saved k) = false
 
 -- Has a scan come with no write or trim accepted since? `so` says it of the calls before: a scan makes it true, an accepted
 -- write or trim false, and any other call leaves it.
@@ -149,7 +143,7 @@ pub record Kept (l : Life) : Type 0 where
   -- They are exactly the different contents if a scan came and no write or trim was accepted since.
   pub exact : settled l.history ≡ true → live_pages l.end ≡ different (contents (page_map l.end))
   -- A usage question asked at the end answers these flash pages in use.
-  pub asked : (a : Answer) (t : State) → Step l.fingerprint l.end usage a t → (u : Usage) × (a ≡ Used u) × (u.live ≡ live_pages l.end)
+  pub asked : (a : Answer) (t : State) → Step l.print l.end usage a t → (u : Usage) × (a ≡ Used u) × (u.live ≡ live_pages l.end)
 
 -- The promise: it is kept in every life.
 abbrev pub Promise : Type 0

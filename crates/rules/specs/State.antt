@@ -2,11 +2,15 @@
 use Rattle.std.specs.Prelude.{ℕ, zero, suc, ◌+◌, ◌-◌, ◌*◌, ◌/◌, ◌%◌, min, Bool, cond, not, ◌&&◌, List, map, length, Option, ◌==◌, nat_eq, nat_lt, slice_index_or}
 use Rattle.std.specs.List.{slice_get, range_with_len}
 use Rattle.flash.specs.Part.{Part, block, written}
-use Rattle.rules.specs.declared.entry.Entry.{Entry}
 
 -- A page's bytes, 256 of them where it is a whole page.
 abbrev pub Bytes : Type 0
 Bytes = List ℕ
+
+-- An entry of the fingerprint store: a fingerprint, and the flash page whose content has it.
+pub record Entry : Type 0 where
+  pub print : ℕ
+  pub page : ℕ
 
 -- A made device: what its part shows; a mapping word for each host page; the shared entries, one for each flash page;
 -- and the places of the fingerprint store, each free or an entry.

@@ -2,8 +2,7 @@
 use Rattle.std.specs.Prelude.{◌≡◌, ℕ, ◌+◌, ◌-◌, ◌*◌, ◌<◌, Bool, cond, ◌⊎◌, List, [], map, Some, None, Option, ◌==◌, ◌≢◌, nat_eq, nat_lt, slice_set}
 use Rattle.std.specs.Option.{unwrap_or}
 use Rattle.flash.specs.Part.{written, appended, erased}
-use Rattle.rules.specs.declared.entry.Entry.{Entry}
-use Rattle.rules.specs.State.{Bytes, State, no_page, tally, flash_pages, per_block, host_pages, content, names, leads}
+use Rattle.rules.specs.State.{Bytes, Entry, State, no_page, tally, flash_pages, per_block, host_pages, content, names, leads}
 
 -- The place without its entry, if that is the entry of flash page q.
 abbrev pub without : ℕ → Option Entry → Option Entry
@@ -83,7 +82,7 @@ renamed q q' w = cond (w == q) q' w
 -- A store entry with q' in place of q.
 abbrev pub renamed_entry : ℕ → ℕ → Option Entry → Option Entry
 renamed_entry q q' None = None
-renamed_entry q q' (Some e) = Some (record { fingerprint = e.fingerprint; page = renamed q q' e.page })
+renamed_entry q q' (Some e) = Some (record { print = e.print; page = renamed q q' e.page })
 
 -- Flash page q is moved to the next page of block b: its bytes are programmed there, and its namer and its store entry follow.
 abbrev pub moved_to : State → ℕ → ℕ → State

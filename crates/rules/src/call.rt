@@ -1,7 +1,4 @@
 // A call of a run.
-ghost use Rattle.std.specs.Prelude.{◌≡◌};
-ghost use Rattle.rules.specs.Recorded.{call_of};
-ghost use Rattle.rules.specs.Promise.{is_host};
 
 // One call with its arguments.
 #[derive(Drop)]
@@ -17,21 +14,4 @@ pub enum Call {
     Usage,
     // The length of the buffer.
     Save(usize),
-}
-
-impl Call {
-    // Reads, writes and trims are the host's calls.
-    pub fn is_host(&self) -> bool
-        ensures value { result ≡ is_host (call_of self.now) }
-    {
-        match self {
-            Call::Write(_, _) => true,
-            Call::Read(_, _) => true,
-            Call::Trim(_) => true,
-            Call::Collect => false,
-            Call::Scan => false,
-            Call::Usage => false,
-            Call::Save(_) => false,
-        }
-    }
 }

@@ -3,19 +3,18 @@
 
 mod answer;
 mod call;
-mod entry;
 mod examples;
 mod kind;
 mod promise;
 mod refusal;
 mod refusal_text;
+mod run;
 mod size_check;
 mod theorems;
 mod want_of_memory;
 
 pub use answer::{Answer, Usage, Written};
 pub use call::Call;
-pub use entry::Entry;
 pub use examples::worked_sizes;
 pub use kind::Kind;
 pub use promise::promise_is_kept;

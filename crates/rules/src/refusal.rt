@@ -11,7 +11,7 @@ pub enum Refusal {
     // Every block that would have to be erased has been erased as often as it endures.
     WornOut,
     // There is no such host page.
-    NoSuchHostPage,
+    NoSuchPage,
     // The page or the buffer is not 256 bytes long.
     Length,
     // The host page is empty.
@@ -46,7 +46,7 @@ impl Refusal {
             Refusal::Geometry => 1,
             Refusal::HostPages => 2,
             Refusal::WornOut => 3,
-            Refusal::NoSuchHostPage => 4,
+            Refusal::NoSuchPage => 4,
             Refusal::Length => 5,
             Refusal::Empty => 6,
             Refusal::NothingToCollect => 7,

@@ -1,15 +1,20 @@
 // A refusal in words, for a person.
+ghost use Rattle.std.specs.Prelude.{◌≡◌, Some};
+ghost use Rattle.rules.specs.Words.{refusal_words, refusal_text};
+
 use crate::refusal::Refusal;
 use std::fmt;
 
 impl Refusal {
-    // The reason in a few words.
-    fn reason(self) -> &'static str {
+    // The reason in words.
+    pub fn words(self) -> &'static str
+        ensures value { result.now ≡ refusal_words self }
+    {
         match self {
             Refusal::Geometry => "geometry",
             Refusal::HostPages => "number of host pages",
             Refusal::WornOut => "worn out",
-            Refusal::NoSuchHostPage => "no such host page",
+            Refusal::NoSuchPage => "no such host page",
             Refusal::Length => "not 256 bytes",
             Refusal::Empty => "empty page",
             Refusal::NothingToCollect => "nothing to collect",
@@ -26,11 +31,13 @@ impl Refusal {
     }
 }
 
-// The number, and the reason behind it.
+// The number, and the words in brackets.
 impl fmt::Display for Refusal {
+    ghost output = { λ e. Some (refusal_text e) };
+
     fn fmt<W: fmt::Write>(&self, f: &mut fmt::Formatter<W>) -> fmt::Result {
         let number = self.number();
-        let reason = self.reason();
-        write!(f, "{number} ({reason})")
+        let words = self.words();
+        write!(f, "{number} ({words})")
     }
 }

@@ -3,7 +3,12 @@ ghost use Rattle.std.specs.Prelude.{◌≡◌};
 ghost use Rattle.rules.specs.Making.{size_refusal, sizes_answer};
 
 use crate::refusal::Refusal;
-use flash::{MOST_BLOCKS, MOST_PAGES_PER_BLOCK};
+
+// The most blocks of a part.
+const MOST_BLOCKS: usize = 255;
+
+// The most pages of a block.
+const MOST_PAGES_PER_BLOCK: usize = 64;
 
 // The most flash pages: one value of a mapping word, 4,095, means "no page".
 pub const MOST_FLASH_PAGES: usize = 4095;

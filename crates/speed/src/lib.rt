@@ -5,8 +5,6 @@ ghost use Rattle.std.specs.Prelude.{◌≡◌};
 ghost use Rattle.fingerprint.specs.Fletcher.{fletcher_of};
 ghost use Rattle.page.specs.Same.{same_bytes};
 
-use page::PAGE_SIZE;
-
 // Fletcher's number of any run of bytes.
 #[unsafe(no_mangle)]
 pub extern "C" fn speed_fletcher(bytes: &[u8]) -> u32
@@ -17,7 +15,7 @@ pub extern "C" fn speed_fletcher(bytes: &[u8]) -> u32
 
 // Whether two pages hold the same bytes.
 #[unsafe(no_mangle)]
-pub extern "C" fn speed_pages_equal(a: &[u8; PAGE_SIZE], b: &[u8; PAGE_SIZE]) -> bool
+pub extern "C" fn speed_pages_equal(a: &[u8; 256], b: &[u8; 256]) -> bool
     ensures value { result ≡ same_bytes a.now b.now }
 {
     page::equal(a, b)

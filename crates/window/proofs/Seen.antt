@@ -2,9 +2,9 @@
 use Rattle.std.proofs.Common.{◌≡◌, ℕ, ◌+◌, ◌-◌, ◌<◌, ◌≤◌, min, ltb, List, [], ◌∷◌, ◌++◌, length, get_or, take, drop, set, sym, refl, ap, ◌∙◌, subst, arith}
 use lib.Seq.{take-set-lt}
 use Rattle.std.proofs.lemmas.List.{length-take, length-drop, get_or-take, get_or-drop, drop-set-add, get_or_past}
-use Rattle.flash.specs.Part.{Block, Part, SoundBlock, Sound, no_block, block, page_bytes, with_block, appended, erased}
-use Rattle.flash.specs.Answers.{PartAnswer, program_answer, read_answer, erase_answer, if_accepted}
-use Rattle.flash.proofs.Alike.{program_alike, read_alike, erase_alike, if_accepted_by}
+use Rattle.flash.specs.Part.{Block, Part, SoundBlock, Sound, no_block, block, content, with_block, appended, erased}
+use Rattle.flash.specs.Answers.{Answer, program_answer, read_answer, erase_answer, either}
+use Rattle.flash.proofs.Alike.{program_alike, read_alike, erase_alike, either_by}
 use Rattle.window.specs.Shown.{window_of}
 
 -- How many blocks it shows.
@@ -37,40 +37,34 @@ module _ (p : Part) (hidden count b c : ℕ) (shown : b < length (window_of p hi
       ∙ take-set-lt count (drop hidden p.blocks) b new seen_below
       ∙ ap (set (take count (drop hidden p.blocks)) b) same)
 
-  -- A program is answered as below.
-  pub seen_program : (k : ℕ) (r : PartAnswer) → r ≡ program_answer p c k → r ≡ program_answer (window_of p hidden count) b k
+  pub seen_program : (k : ℕ) (r : Answer) → r ≡ program_answer p c k → r ≡ program_answer (window_of p hidden count) b k
   seen_program k r e =
       e ∙ sym (program_alike (window_of p hidden count) p b c shown seen_inside k refl (ap (λ x. length x.pages) seen_block))
 
-  -- What a program leaves below is seen through the window.
-  pub seen_appended : (q : Part) (x : List ℕ) (r : PartAnswer) → q ≡ if_accepted r (appended p c x) p
-      → window_of q hidden count ≡ if_accepted r (appended (window_of p hidden count) b x) (window_of p hidden count)
+  pub seen_appended : (q : Part) (x : List ℕ) (r : Answer) → q ≡ either r (appended p c x) p
+      → window_of q hidden count ≡ either r (appended (window_of p hidden count) b x) (window_of p hidden count)
   seen_appended q x r e =
       ap (λ y. window_of y hidden count) e
-      ∙ if_accepted_by (λ y. window_of y hidden count) r (appended p c x) p _ _
+      ∙ either_by (λ y. window_of y hidden count) r (appended p c x) p _ _
       (seen_put _ _ (ap (λ (y : Block). record { pages = y.pages ++ x ∷ []; erases = y.erases }) (sym seen_block))) refl
 
-  -- A read is answered as below.
-  pub seen_read : (k : ℕ) (r : PartAnswer) → r ≡ read_answer p c k → r ≡ read_answer (window_of p hidden count) b k
+  pub seen_read : (k : ℕ) (r : Answer) → r ≡ read_answer p c k → r ≡ read_answer (window_of p hidden count) b k
   seen_read k r e =
       e ∙ sym (read_alike (window_of p hidden count) p b c shown seen_inside k refl (ap (λ x. length x.pages) seen_block))
 
-  -- A read gives the bytes from below.
-  pub seen_bytes : (k : ℕ) (old now : List ℕ) (r : PartAnswer) → now ≡ if_accepted r (page_bytes p c k) old
-      → now ≡ if_accepted r (page_bytes (window_of p hidden count) b k) old
-  seen_bytes k old now r e = e ∙ ap (λ y. if_accepted r (get_or y.pages k []) old) (sym seen_block)
+  pub seen_content : (k : ℕ) (old now : List ℕ) (r : Answer) → now ≡ either r (content p c k) old
+      → now ≡ either r (content (window_of p hidden count) b k) old
+  seen_content k old now r e = e ∙ ap (λ y. either r (get_or y.pages k []) old) (sym seen_block)
 
-  -- An erase is answered as below.
-  pub seen_erase : (r : PartAnswer) → r ≡ erase_answer p c → r ≡ erase_answer (window_of p hidden count) b
+  pub seen_erase : (r : Answer) → r ≡ erase_answer p c → r ≡ erase_answer (window_of p hidden count) b
   seen_erase r e =
       e ∙ sym (erase_alike (window_of p hidden count) p b c shown seen_inside (ap (λ x. ltb x.erases p.endurance) seen_block))
 
-  -- What an erase leaves below is seen through the window.
-  pub seen_erased : (q : Part) (r : PartAnswer) → q ≡ if_accepted r (erased p c) p
-      → window_of q hidden count ≡ if_accepted r (erased (window_of p hidden count) b) (window_of p hidden count)
+  pub seen_erased : (q : Part) (r : Answer) → q ≡ either r (erased p c) p
+      → window_of q hidden count ≡ either r (erased (window_of p hidden count) b) (window_of p hidden count)
   seen_erased q r e =
       ap (λ y. window_of y hidden count) e
-      ∙ if_accepted_by (λ y. window_of y hidden count) r (erased p c) p _ _
+      ∙ either_by (λ y. window_of y hidden count) r (erased p c) p _ _
       (seen_put _ _ (ap (λ (y : Block). record { pages = []; erases = y.erases + 1 }) (sym seen_block))) refl
 
 -- A window onto a well-formed part is well-formed.

@@ -1,11 +1,10 @@
 // The window itself. It adds to the block number, and checks that the block is one it shows.
 ghost use Rattle.std.specs.Prelude.{◌≡◌, ◌+◌};
-ghost use Rattle.flash.specs.Part.{page_bytes};
-ghost use Rattle.flash.specs.Answers.{program_answer, read_answer, erase_answer, if_accepted, after_program, after_erase};
-ghost use Rattle.window.specs.Shown.{shown_by, Beneath};
+ghost use Rattle.flash.specs.Part.{content, appended, erased};
+ghost use Rattle.flash.specs.Answers.{program_answer, read_answer, erase_answer, either};
+ghost use Rattle.window.specs.Shown.{window_of, Beneath};
 
-use flash::{Flash, PartRefusal};
-use page::PAGE_SIZE;
+use flash::{Flash, Refusal};
 
 #[derive(Drop)]
 pub struct Window<F> {
@@ -42,7 +41,7 @@ impl<F: Flash> Window<F> {
 
     // The block's number below, if it is shown.
     fn beneath(&self, block: usize) -> Option<usize>
-        ensures found { Beneath F.Flash.shows self.now block result }
+        ensures found { Beneath (F.Flash.shows self.now.below) self.now.hidden self.now.count block result }
     {
         let shown = self
             .below
@@ -58,7 +57,7 @@ impl<F: Flash> Window<F> {
 }
 
 impl<F: Flash> Flash for Window<F> {
-    ghost shows = { shown_by F.Flash.shows };
+    ghost shows = { λ w. window_of (F.Flash.shows w.below) w.hidden w.count };
 
     fn blocks(&self) -> usize {
         self.below
@@ -91,53 +90,43 @@ impl<F: Flash> Flash for Window<F> {
 
     // `below` says what the hidden blocks are afterwards: untouched, as only the one block below changes. `hidden` and `count` say
     // that no call, and no refusal, moves the window.
-    fn program(
-        &mut self,
-        block: usize,
-        page: usize,
-        bytes: &[u8; PAGE_SIZE],
-    ) -> Result<(), PartRefusal>
-        ensures answer { result ≡ program_answer (shown_by F.Flash.shows self.old) block page }
-        ensures after { shown_by F.Flash.shows self.new ≡ after_program result (shown_by F.Flash.shows self.old) block bytes.now }
-        ensures below { F.Flash.shows self.new.below ≡ after_program result (F.Flash.shows self.old.below) (self.old.hidden + block) bytes.now }
+    fn program(&mut self, block: usize, page: usize, bytes: &[u8; 256]) -> Result<(), Refusal>
+        ensures answer { result ≡ program_answer (window_of (F.Flash.shows self.old.below) self.old.hidden self.old.count) block page }
+        ensures after { window_of (F.Flash.shows self.new.below) self.new.hidden self.new.count ≡ either result (appended (window_of (F.Flash.shows self.old.below) self.old.hidden self.old.count) block bytes.now) (window_of (F.Flash.shows self.old.below) self.old.hidden self.old.count) }
+        ensures below { F.Flash.shows self.new.below ≡ either result (appended (F.Flash.shows self.old.below) (self.old.hidden + block) bytes.now) (F.Flash.shows self.old.below) }
         ensures hidden { self.new.hidden ≡ self.old.hidden }
         ensures count { self.new.count ≡ self.old.count }
     {
         match self.beneath(block) {
             Some(under) => self.below.program(under, page, bytes),
-            None => Err(PartRefusal::NoSuchPage),
+            None => Err(Refusal::NoSuchPage),
         }
     }
 
-    fn read(
-        &mut self,
-        block: usize,
-        page: usize,
-        buffer: &mut [u8; PAGE_SIZE],
-    ) -> Result<(), PartRefusal>
-        ensures answer { result ≡ read_answer (shown_by F.Flash.shows self.old) block page }
-        ensures buffer { buffer.new ≡ if_accepted result (page_bytes (shown_by F.Flash.shows self.old) block page) buffer.old }
-        ensures after { shown_by F.Flash.shows self.new ≡ shown_by F.Flash.shows self.old }
+    fn read(&mut self, block: usize, page: usize, buffer: &mut [u8; 256]) -> Result<(), Refusal>
+        ensures answer { result ≡ read_answer (window_of (F.Flash.shows self.old.below) self.old.hidden self.old.count) block page }
+        ensures buffer { buffer.new ≡ either result (content (window_of (F.Flash.shows self.old.below) self.old.hidden self.old.count) block page) buffer.old }
+        ensures after { window_of (F.Flash.shows self.new.below) self.new.hidden self.new.count ≡ window_of (F.Flash.shows self.old.below) self.old.hidden self.old.count }
         ensures below { F.Flash.shows self.new.below ≡ F.Flash.shows self.old.below }
         ensures hidden { self.new.hidden ≡ self.old.hidden }
         ensures count { self.new.count ≡ self.old.count }
     {
         match self.beneath(block) {
             Some(under) => self.below.read(under, page, buffer),
-            None => Err(PartRefusal::NoSuchPage),
+            None => Err(Refusal::NoSuchPage),
         }
     }
 
-    fn erase(&mut self, block: usize) -> Result<(), PartRefusal>
-        ensures answer { result ≡ erase_answer (shown_by F.Flash.shows self.old) block }
-        ensures after { shown_by F.Flash.shows self.new ≡ after_erase result (shown_by F.Flash.shows self.old) block }
-        ensures below { F.Flash.shows self.new.below ≡ after_erase result (F.Flash.shows self.old.below) (self.old.hidden + block) }
+    fn erase(&mut self, block: usize) -> Result<(), Refusal>
+        ensures answer { result ≡ erase_answer (window_of (F.Flash.shows self.old.below) self.old.hidden self.old.count) block }
+        ensures after { window_of (F.Flash.shows self.new.below) self.new.hidden self.new.count ≡ either result (erased (window_of (F.Flash.shows self.old.below) self.old.hidden self.old.count) block) (window_of (F.Flash.shows self.old.below) self.old.hidden self.old.count) }
+        ensures below { F.Flash.shows self.new.below ≡ either result (erased (F.Flash.shows self.old.below) (self.old.hidden + block)) (F.Flash.shows self.old.below) }
         ensures hidden { self.new.hidden ≡ self.old.hidden }
         ensures count { self.new.count ≡ self.old.count }
     {
         match self.beneath(block) {
             Some(under) => self.below.erase(under),
-            None => Err(PartRefusal::NoSuchPage),
+            None => Err(Refusal::NoSuchPage),
         }
     }
 }

@@ -1,5 +1,5 @@
 use Rattle.std.proofs.Common.{refl}
-use Rattle.flash.proofs.Keeps.{sound_appended, sound_erased, bytes_appended_here, bytes_appended_before, bytes_appended_other, bytes_erased_other}
+use Rattle.flash.proofs.Keeps.{sound_appended, sound_erased, content_appended_here, content_appended_before, content_appended_other, content_erased_other}
 use Rattle.flash.proofs.Wear.{wear_appended, wear_erased}
 use Rattle.flash.proofs.laws.laws_hold.Goals as goal
 
@@ -11,9 +11,9 @@ returns c = record {
     erase_keeps = sound_erased;
     program_wears = wear_appended;
     erase_wears = wear_erased;
-    reads_new = bytes_appended_here;
-    reads_before = bytes_appended_before;
-    reads_elsewhere = bytes_appended_other;
-    reads_after_erase = bytes_erased_other;
+    reads_new = content_appended_here;
+    reads_before = content_appended_before;
+    reads_elsewhere = content_appended_other;
+    reads_after_erase = content_erased_other;
   };
 }

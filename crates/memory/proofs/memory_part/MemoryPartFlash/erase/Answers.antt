@@ -1,5 +1,4 @@
 use Rattle.std.proofs.Common.{◌≡◌, ◌<◌, sym, refl, ap, ◌∙◌, subst, arith}
-use Rattle.flash.specs.Limits.{most_endurance}
 use Rattle.memory.specs.Layout.{pages_of, record_count, stored_erases}
 use Rattle.memory.specs.Memory.{memory_of, wiped}
 use Rattle.memory.proofs.Accepted.{erase_accepted}
@@ -16,7 +15,7 @@ wipe-requires c =
       pages = omega arith;
       block = shown_inside p.bytes.now p.pages p.endurance c.args.block c.blocks-2.result c.pages_per_block-pages.result
           c.blocks-2.ensures.value c.pages_per_block-pages.ensures.value (omega arith);
-      left = subst (λ P. stored_erases p.bytes.now P b < most_endurance) (sym c.pages_per_block-pages.ensures.value)
+      left = subst (λ P. stored_erases p.bytes.now P b < 1000000) (sym c.pages_per_block-pages.ensures.value)
           (omega (arith, shown_erases p.bytes.now p.pages p.endurance b h));
     }
 

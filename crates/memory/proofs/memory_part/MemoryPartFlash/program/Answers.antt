@@ -1,6 +1,6 @@
 use Rattle.std.proofs.Common.{◌≡◌, ◌<◌, sym, refl, ap, ◌∙◌, arith}
 use Rattle.memory.specs.Layout.{pages_of, record_count}
-use Rattle.memory.specs.Memory.{memory_of, page_programmed}
+use Rattle.memory.specs.Memory.{memory_of, programmed}
 use Rattle.memory.proofs.Accepted.{program_accepted}
 use Rattle.memory.proofs.Shown.{shown_inside, shown_written, shown_appended}
 use Rattle.memory.proofs.memory_part.MemoryPartFlash.program.Goals as goal
@@ -21,8 +21,8 @@ returns c =
     let h : c.args.block < record_count p.bytes.now (pages_of p.pages) =
     shown_inside p.bytes.now p.pages p.endurance c.args.block c.blocks-2.result (pages_of p.pages)
     c.blocks-2.ensures.value refl (omega arith) in
-    let is : c.write_page.new.bytes ≡ page_programmed p.bytes.now (pages_of p.pages) b k x =
-    c.write_page.ensures.bytes ∙ ap (λ P. page_programmed p.bytes.now P b k x) c.pages_per_block-pages.ensures.value in
+    let is : c.write_page.new.bytes ≡ programmed p.bytes.now (pages_of p.pages) b k x =
+    c.write_page.ensures.bytes ∙ ap (λ P. programmed p.bytes.now P b k x) c.pages_per_block-pages.ensures.value in
     record {
       answer = program_accepted (memory_of p.bytes.now p.pages p.endurance) b (omega arith) k (omega arith) (omega arith);
       after = ap (λ m. memory_of m p.pages p.endurance) is

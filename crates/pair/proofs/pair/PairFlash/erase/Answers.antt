@@ -1,5 +1,5 @@
 use Rattle.std.proofs.Common.{◌-◌, length, rules}
-use Rattle.flash.specs.declared.part_refusal.PartRefusal.TheVariants.{NoSuchPage}
+use Rattle.flash.specs.declared.refusal.Refusal.TheVariants.{NoSuchPage}
 use Rattle.flash.specs.Part.{erased}
 use Rattle.pair.specs.Shown.{pair_of}
 use Rattle.pair.proofs.Seen.{seen_erase, seen_erased}

@@ -1,6 +1,6 @@
 use Rattle.std.proofs.Common.{refl, ap, ◌∙◌}
 use Rattle.flash.specs.Part.{erased}
-use Rattle.flash.specs.Answers.{if_accepted}
+use Rattle.flash.specs.Answers.{either}
 use Rattle.window.proofs.Seen.{seen_erase, seen_erased}
 use Rattle.window.proofs.window.WindowFlash.erase.Goals as goal
 
@@ -12,7 +12,7 @@ returns-in-Some g c =
     record {
       answer = seen_erase p w.hidden w.count _ _ s.0 s.1 _ c.erase.ensures.answer;
       after = seen_erased p w.hidden w.count _ _ s.0 s.1 _ _ c.erase.ensures.after;
-      below = c.erase.ensures.after ∙ ap (λ i. if_accepted c.erase.result (erased p i) p) s.1;
+      below = c.erase.ensures.after ∙ ap (λ i. either c.erase.result (erased p i) p) s.1;
       hidden = refl;
       count = refl;
     }

@@ -1,6 +1,6 @@
 use Rattle.std.proofs.Common.{refl, ap, ◌∙◌}
 use Rattle.flash.specs.Part.{appended}
-use Rattle.flash.specs.Answers.{if_accepted}
+use Rattle.flash.specs.Answers.{either}
 use Rattle.window.proofs.Seen.{seen_program, seen_appended}
 use Rattle.window.proofs.window.WindowFlash.program.Goals as goal
 
@@ -13,7 +13,7 @@ returns-in-Some g c =
       answer = seen_program p w.hidden w.count _ _ s.0 s.1 _ _ c.program.ensures.answer;
       after = seen_appended p w.hidden w.count _ _ s.0 s.1 _ _ _ c.program.ensures.after;
       below = c.program.ensures.after
-          ∙ ap (λ i. if_accepted c.program.result (appended p i c.args.bytes.now) p) s.1;
+          ∙ ap (λ i. either c.program.result (appended p i c.args.bytes.now) p) s.1;
       hidden = refl;
       count = refl;
     }

@@ -1,7 +1,7 @@
 ghost use Rattle.std.specs.Prelude.{◌≡◌};
 ghost use Rattle.fingerprint.specs.Fletcher.{fletcher_of};
 
-use crate::sums::{CHUNK, GROUP, Sums};
+use crate::sums::{BLOCK, GROUP, Sums};
 
 // Fletcher's number of any run of bytes. An odd last byte counts as a word whose high byte is zero.
 pub fn fletcher(bytes: &[u8]) -> u32
@@ -12,8 +12,8 @@ pub fn fletcher(bytes: &[u8]) -> u32
     let mut sums = Sums { a: 0, b: 0 };
     let mut start = 0;
     while start < whole {
-        let end = start + CHUNK.min(whole - start);
-        sums = sums.after_chunk(bytes, start, end);
+        let end = start + BLOCK.min(whole - start);
+        sums = sums.after_block(bytes, start, end);
         start = end;
     }
     sums = sums.after_words(bytes, whole, even);

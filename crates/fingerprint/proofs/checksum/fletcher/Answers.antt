@@ -1,9 +1,9 @@
 use Rattle.std.proofs.Common.{◌≡◌, ◌+◌, ◌-◌, ◌%◌, [], ◌∷◌, length, get_or, drop, sym, ap, ◌∙◌, arith}
 use Rattle.fingerprint.specs.Fletcher.{words_of, fletcher_from}
 use Rattle.fingerprint.proofs.Words.{words_last, words_all}
-use Rattle.fingerprint.proofs.fletcher_number.fletcher.Goals as goal
+use Rattle.fingerprint.proofs.checksum.fletcher.Goals as goal
 
--- One byte is left over: it is the last word.
+-- one byte is left over: it is the last word
 pub returns-then-even-bytes : goal.returns-then-even-bytes
 returns-then-even-bytes c =
     let bytes = c.args.bytes.now in
@@ -17,7 +17,7 @@ returns-then-even-bytes c =
     let number : c.number.result ≡ fletcher_from sums.a sums.b (byte ∷ []) = cc in
     record { value = number ∙ sym only ∙ c.after_words-sums.ensures.rest ∙ groups ∙ c.loop-start.invariant.3 }
 
--- All bytes stand in whole words.
+-- all bytes stand in whole words
 pub returns : goal.returns
 returns c =
     let bytes = c.args.bytes.now in

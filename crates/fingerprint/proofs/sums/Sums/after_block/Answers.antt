@@ -1,7 +1,7 @@
 use Rattle.std.proofs.Common.{◌≡◌, ◌+◌, ◌%◌, ◌<◌, ◌∷◌, length, drop, sym, ap, ◌∙◌, arith}
 use Rattle.fingerprint.specs.Fletcher.{words_of, fletcher_from}
 use Rattle.fingerprint.proofs.Words.{words_group, delayed_group}
-use Rattle.fingerprint.proofs.sums.Sums.after_chunk.Goals as goal
+use Rattle.fingerprint.proofs.sums.Sums.after_block.Goals as goal
 
 pub loop-i-preserved : goal.loop-i-preserved
 loop-i-preserved c =

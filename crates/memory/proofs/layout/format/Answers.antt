@@ -1,7 +1,7 @@
 use Rattle.std.proofs.Common.{arith}
 use Rattle.memory.proofs.Blank.{blank_step}
 use Rattle.memory.proofs.Records.{record_inside}
-use Rattle.memory.proofs.layout.make_fresh.Goals as goal
+use Rattle.memory.proofs.layout.format.Goals as goal
 
 pub fill_bytes-requires : goal.fill_bytes-requires
 fill_bytes-requires c = record { within = omega (arith, record_inside c.args.bytes.now c.args.pages c.loop-block.block (omega arith)) }

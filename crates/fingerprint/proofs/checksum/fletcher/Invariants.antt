@@ -1,9 +1,9 @@
 use Rattle.std.proofs.Common.{◌≡◌, ◌-◌, ◌%◌, ◌≤◌, drop}
 use Rattle.fingerprint.specs.Sums.{Reduced}
 use Rattle.fingerprint.specs.Fletcher.{words_of, fletcher_from, fletcher_of}
-use Rattle.fingerprint.proofs.fletcher_number.fletcher.Given as goal
+use Rattle.fingerprint.proofs.checksum.fletcher.Given as goal
 
--- The sums are reduced, whole groups are left before the rest, and with the sums so far they give the number of all bytes.
+-- the sums are reduced, whole groups are left before the rest, and with the sums so far they give the number of all bytes
 abbrev pub invariant-loop-start : goal.invariant-loop-start
 invariant-loop-start l =
     Reduced l.sums

@@ -1,16 +1,15 @@
 ghost use Rattle.fingerprint.specs.Sample.{sample_of};
 
 use crate::fingerprint::Fingerprint;
-use page::PAGE_SIZE;
 
 // The first four bytes of a page, the first one highest.
 #[derive(Clone, Copy)]
 pub struct Sample;
 
 impl Fingerprint for Sample {
-    ghost fingerprint_of = { λ _ bytes. sample_of bytes };
+    ghost print = { λ _ bytes. sample_of bytes };
 
-    fn of(&self, page: &[u8; PAGE_SIZE]) -> u32 {
+    fn of(&self, page: &[u8; 256]) -> u32 {
         u32::from_be_bytes([page[0], page[1], page[2], page[3]])
     }
 }

@@ -1,9 +1,8 @@
 use Rattle.std.proofs.Common.{◌≡◌, ◌+◌, ◌-◌, ◌*◌, ◌%◌, ◌≤◌, drop}
 use Rattle.fingerprint.specs.Fletcher.{words_of, fletcher_from}
-use Rattle.fingerprint.proofs.sums.Sums.after_chunk.Given as goal
+use Rattle.fingerprint.proofs.sums.Sums.after_block.Given as goal
 
--- The index stands at a group of words, the sums are bounded by how far it has come, and reduced they give with what is left
--- what they gave at the start.
+-- the index stands at a group of words, the sums are bounded by how far it has come, and reduced they give with what is left what they gave at the start
 abbrev pub invariant-loop-i : goal.invariant-loop-i
 invariant-loop-i l =
     (l.start ≤ l.i) × (l.i ≤ l.end) × ((l.end - l.i) % 8 ≡ 0)

@@ -2,8 +2,8 @@ use Rattle.std.proofs.Common.{◌<◌, sym, refl, ap, ◌∙◌, arith}
 use Rattle.memory.specs.Layout.{pages_of, record_count, page_in}
 use Rattle.memory.specs.Memory.{memory_of}
 use Rattle.memory.proofs.Accepted.{read_accepted}
-use Rattle.memory.proofs.Shown.{shown_inside, shown_bytes}
-use Rattle.memory.proofs.memory_part.MemoryPart.copy_page.Goals as goal
+use Rattle.memory.proofs.Shown.{shown_inside, shown_content}
+use Rattle.memory.proofs.memory_part.MemoryPart.load.Goals as goal
 
 pub read_page-requires : goal.read_page-requires
 read_page-requires c =
@@ -25,5 +25,5 @@ returns c =
       answer = read_accepted (memory_of p.bytes.now p.pages p.endurance) c.args.block (omega arith) c.args.page (omega arith) (omega arith);
       buffer = c.read_page.ensures.buffer
           ∙ ap (λ P. page_in p.bytes.now P c.args.block c.args.page) c.pages_per_block-pages.ensures.value
-          ∙ sym (shown_bytes p.bytes.now p.pages p.endurance c.args.block h c.args.page (omega arith));
+          ∙ sym (shown_content p.bytes.now p.pages p.endurance c.args.block h c.args.page (omega arith));
     }

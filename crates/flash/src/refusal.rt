@@ -1,0 +1,54 @@
+// Why a part refuses a call, with the number that stands for each reason.
+ghost use Rattle.std.specs.Prelude.{◌≡◌, Some};
+ghost use Rattle.flash.specs.Answers.{number_of, refusal_words, refusal_text};
+
+use std::fmt;
+
+#[derive(Clone, Copy, PartialEq, Eq, Debug)]
+pub enum Refusal {
+    // There is no such block or page.
+    NoSuchPage,
+    // The page is not the next unwritten one of its block.
+    NotNext,
+    // The page is unwritten.
+    Unwritten,
+    // The block has been erased as often as it endures.
+    WornOut,
+}
+
+impl Refusal {
+    // The number that stands for the reason.
+    pub fn number(self) -> u8
+        ensures value { result ≡ number_of self }
+    {
+        match self {
+            Refusal::NoSuchPage => 16,
+            Refusal::NotNext => 17,
+            Refusal::Unwritten => 18,
+            Refusal::WornOut => 19,
+        }
+    }
+
+    // The reason in words.
+    pub fn words(self) -> &'static str
+        ensures value { result.now ≡ refusal_words self }
+    {
+        match self {
+            Refusal::NoSuchPage => "no such page",
+            Refusal::NotNext => "not the next page",
+            Refusal::Unwritten => "unwritten",
+            Refusal::WornOut => "endurance reached",
+        }
+    }
+}
+
+// The number, and the words in brackets.
+impl fmt::Display for Refusal {
+    ghost output = { λ e. Some (refusal_text e) };
+
+    fn fmt<W: fmt::Write>(&self, f: &mut fmt::Formatter<W>) -> fmt::Result {
+        let number = self.number();
+        let words = self.words();
+        write!(f, "{number} ({words})")
+    }
+}

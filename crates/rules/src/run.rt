@@ -1,0 +1,38 @@
+// The calls of a run and what a device answers to them, as a record of a run has them.
+ghost use Rattle.std.specs.Prelude.{◌≡◌};
+ghost use Rattle.rules.specs.Recorded.{call_of};
+ghost use Rattle.rules.specs.Promise.{is_host, is_refusal};
+
+use crate::answer::Answer;
+use crate::call::Call;
+
+impl Call {
+    // Reads, writes and trims are the host's calls.
+    pub fn is_host(&self) -> bool
+        ensures value { result ≡ is_host (call_of self.now) }
+    {
+        match self {
+            Call::Write(_, _) => true,
+            Call::Read(_, _) => true,
+            Call::Trim(_) => true,
+            Call::Collect => false,
+            Call::Scan => false,
+            Call::Usage => false,
+            Call::Save(_) => false,
+        }
+    }
+}
+
+impl Answer {
+    pub fn is_refusal(&self) -> bool
+        ensures value { result ≡ is_refusal self.now }
+    {
+        match self {
+            Answer::Refused(_) => true,
+            Answer::Wrote(_) => false,
+            Answer::Page(_) => false,
+            Answer::Number(_) => false,
+            Answer::Used(_) => false,
+        }
+    }
+}
