@@ -17,8 +17,8 @@ geometry_fits blocks pages =
 abbrev pub host_pages_fit : ℕ → ℕ → ℕ → Bool
 host_pages_fit blocks pages host = nat_le 1 host && nat_le (host + 1) ((blocks - 1) * pages)
 
--- Format refuses a part and a number of host pages by their sizes with 1, then with 2; 0 where it does not. Load refuses the part with 1 too,
--- and the number of host pages that an image has with 12.
+-- Format refuses a part and a number of host pages by their sizes with 1, then with 2; 0 where it does not. Load, whose order of
+-- checks is not defined here yet, refuses the part with 1 too, and the number of host pages that an image has with 12.
 abbrev pub size_refusal : ℕ → ℕ → ℕ → ℕ
 size_refusal blocks pages host = cond (geometry_fits blocks pages) (cond (host_pages_fit blocks pages host) 0 2) 1
 
