@@ -18,9 +18,13 @@ refusal_words NotNext = codes "not the next page"
 refusal_words Unwritten = codes "unwritten"
 refusal_words WornOut = codes "endurance reached"
 
+-- A number with words behind it, in brackets: how every refusal, of a part or of what stands on it, is shown.
+abbrev pub numbered : ℕ → List ℕ → List ℕ
+numbered n words = decimal n ++ (codes " (" ++ (words ++ codes ")"))
+
 -- A refusal as text: its number, and its words in brackets.
 abbrev pub refusal_text : Refusal → List ℕ
-refusal_text e = decimal (number_of e) ++ (codes " (" ++ (refusal_words e ++ codes ")"))
+refusal_text e = numbered (number_of e) (refusal_words e)
 
 -- What a call answers that gives nothing back but may refuse.
 abbrev pub Answer : Type 0

@@ -1,5 +1,6 @@
 -- The refusals of the layer in words.
-use Rattle.std.specs.Prelude.{ℕ, List, ◌++◌, codes, decimal}
+use Rattle.std.specs.Prelude.{ℕ, List, codes}
+use Rattle.flash.specs.Answers.{numbered}
 use Rattle.rules.specs.declared.refusal.Refusal.{Refusal}
 use Rattle.rules.specs.declared.refusal.Refusal.TheVariants.{Geometry, HostPages, WornOut, NoSuchPage, Length, Empty, NothingToCollect, ShortBuffer, ImageLength, BlockCheck, BlockHead, WordRange, FlashDiffers, Contradiction, FlashState, NoMemory}
 use Rattle.rules.specs.Numbers.{refusal_number}
@@ -25,4 +26,4 @@ refusal_words NoMemory = codes "no memory"
 
 -- A refusal as text: its number, and its words in brackets.
 abbrev pub refusal_text : Refusal → List ℕ
-refusal_text e = decimal (refusal_number e) ++ (codes " (" ++ (refusal_words e ++ codes ")"))
+refusal_text e = numbered (refusal_number e) (refusal_words e)
