@@ -3,8 +3,10 @@
 
 mod flash;
 mod laws;
+mod limits;
 mod refusal;
 
 pub use flash::Flash;
 pub use laws::laws_hold;
+pub use limits::{MOST_BLOCKS, MOST_ENDURANCE, MOST_PAGES_PER_BLOCK};
 pub use refusal::Refusal;

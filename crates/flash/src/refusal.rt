@@ -7,13 +7,13 @@ use std::fmt;
 #[derive(Clone, Copy, PartialEq, Eq, Debug)]
 pub enum Refusal {
     // There is no such block or page.
-    NoSuchPage,
+    NoSuchPage = 16,
     // The page is not the next unwritten one of its block.
-    NotNext,
+    NotNext = 17,
     // The page is unwritten.
-    Unwritten,
+    Unwritten = 18,
     // The block has been erased as often as it endures.
-    WornOut,
+    WornOut = 19,
 }
 
 impl Refusal {
@@ -21,12 +21,7 @@ impl Refusal {
     pub fn number(self) -> u8
         ensures value { result ≡ number_of self }
     {
-        match self {
-            Refusal::NoSuchPage => 16,
-            Refusal::NotNext => 17,
-            Refusal::Unwritten => 18,
-            Refusal::WornOut => 19,
-        }
+        self as u8
     }
 
     // The reason in words.
@@ -47,8 +42,6 @@ impl fmt::Display for Refusal {
     ghost output = { λ e. Some (refusal_text e) };
 
     fn fmt<W: fmt::Write>(&self, f: &mut fmt::Formatter<W>) -> fmt::Result {
-        let number = self.number();
-        let words = self.words();
-        write!(f, "{number} ({words})")
+        write!(f, "{} ({})", self.number(), self.words())
     }
 }
