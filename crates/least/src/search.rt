@@ -6,14 +6,9 @@ use crate::order::Order;
 pub fn least<T: Order>(records: &[T]) -> Option<usize>
     ensures answer { LeastOrNone T.at_most records.now result }
 {
-    if records.is_empty() {
-        return None;
-    }
-    let mut best = 0;
-    for i in 1..records.len() {
-        if !records[best].at_most(&records[i]) {
-            best = i;
-        }
-    }
-    Some(best)
+    records
+        .iter()
+        .enumerate()
+        .reduce(|best, later| if best.1.at_most(later.1) { best } else { later })
+        .map(|(place, _)| place)
 }

@@ -1,42 +1,19 @@
-use Rattle.std.proofs.Common.{◌≡◌, ℕ, ◌+◌, ◌<◌, not, length, sym, ap, ◌∙◌, subst, arith}
-use Rattle.std.specs.Cmp.{IsStrictWeakOrder}
-use Rattle.std.proofs.lemmas.Bool.{eqb-false}
-use Rattle.std.proofs.lemmas.List.MinMax.{IsStrictWeakOrder-from_at_least, IsFirstBest-none, IsFirstBest-keeps, IsFirstBest-takes}
-use Rattle.std.specs.List.{IsFirstBest}
-use Rattle.least.proofs.Best.{below, least_from_best}
-use Rattle.least.proofs.search.least.Given as given
+use Rattle.std.proofs.Common.{rules, ◌≡◌, ℕ, ◌<◌, length, map, get_or, Bor, ◌∙◌, arith}
+use Rattle.std.proofs.lemmas.Grind.{common_steps}
+use Rattle.std.proofs.lemmas.Simd.{map-map}
+use Rattle.std.specs.Option.{option_map}
+use Rattle.least.proofs.Best.{LeastOrNone-from_reduce}
 use Rattle.least.proofs.search.least.Goals as goal
-use Rattle.least.proofs.search.least.Goals.{then-not-at_most, else-not-at_most}
-
--- The order of the records ranks them.
-ranks : (g : given.Over) → IsStrictWeakOrder (below g.T.Order.at_most)
-ranks g = IsStrictWeakOrder-from_at_least g.T.Order.at_most g.met.T.Order.total g.met.T.Order.transitive
-
-pub loop-i-init : goal.loop-i-init
-loop-i-init g c = IsFirstBest-none (ranks g) c.args.records.now
-
-pub offset_bounds-records-best : goal.offset_bounds-records-best
-offset_bounds-records-best g c = omega (arith, c.loop-i.invariant.0)
-
-pub bounds-records-best : goal.bounds-records-best
-bounds-records-best g c = omega (arith, c.loop-i.invariant.0)
-
-pub loop-i-preserved : goal.loop-i-preserved
-loop-i-preserved g c =
-    let records = c.args.records.now in
-    let i = c.loop-i.i in
-    let b = c.loop-i.best in
-    let x = c.index-records-i.result in
-    let y = c.index-records-best.result in
-    let inside : i < length records = omega arith in
-    let Best : ℕ → Type 0 = λ p. IsFirstBest (below g.T.Order.at_most) records (i + 1) p in
-    elim c.if-not-at_most.branch [
-      | then-not-at_most w ↦ subst Best (sym w.best-is) (IsFirstBest-takes (ranks g) records i b x y c.loop-i.invariant inside c.index-records-i.is c.index-records-best.is (ap not (sym w.if-not-at_most.ensures.value)))
-      | else-not-at_most w ↦ subst Best (sym w.best-is) (IsFirstBest-keeps (ranks g) records i b x y c.loop-i.invariant inside c.index-records-i.is c.index-records-best.is (ap not (sym w.if-not-at_most.ensures.value)))
-    ]
 
 pub returns : goal.returns
 returns g c =
-    let records = c.args.records.now in
-    let some : length records ≡ 0 → ⊥ = eqb-false (length records) 0 (sym c.is_empty.ensures ∙ c.if-is_empty.false) in
-    record { answer = least_from_best g.T.Order.at_most records c.loop-i.i c.loop-i.best (omega arith) c.loop-i.invariant }
+    let R : Type 0 = ℕ × Bor g.row.T.Denot in
+    let read = λ (r : Bor g.row.T.Denot). r.now in
+    let run = c.reduce.ensures.runs in
+    let numbers = c.enumerate.ensures.runs run.0 run.0.seen run.1 in
+    let source = numbers.1 in
+    let numbered : (k : ℕ) (d : R) → k < length run.0.items → (get_or run.0.items k d).0 ≡ k = λ k d inside. grind (arith, common_steps, run.0.reads k d, numbers.0 k) in
+    let whole : map read source.0.items ≡ source.0.from.rest.now = (c.iter.ensures.runs source.0 source.0.seen).4 (source.2.1 ∙ run.2) in
+    let records : map (λ (p : R). read p.1) run.0.items ≡ c.args.records.now = cc (map-map read (λ (p : R). p.1) run.0.items, source.2.0.1) in
+    let place : c.map.result ≡ option_map (λ (p : R). p.0) c.reduce.result = search rules in
+    record { answer = rw (place, ← records) (LeastOrNone-from_reduce read g.T.Order.at_most g.met.T.Order.total g.met.T.Order.transitive run.0 _ _ (λ b x r f k. search rules) numbered c.reduce.result run.3) }
