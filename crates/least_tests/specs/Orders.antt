@@ -1,15 +1,17 @@
 -- The orders of the two record kinds.
-use Rattle.std.specs.Prelude.{Bool, true, false, ◌&&◌, ◌||◌, ◌==◌, nat_le, nat_lt}
-use Rattle.least_tests.specs.declared.block.Block.{Block}
-use Rattle.least_tests.specs.declared.entry.Entry.{Entry}
-use Rattle.least_tests.specs.declared.entry.Entry.TheVariants.{Free, Held}
+use Rattle.std.specs.Prelude.{ℕ, Bool, Option, ◌&&◌, ◌||◌, ◌==◌, nat_le, nat_lt}
+use Rattle.least.specs.Orders.{none_first}
+use Rattle.least.specs.declared.counted.Counted.{Counted}
+use Rattle.least_tests.specs.declared.entry.Held.{Held}
 
 -- the first block was erased at most as often as the second
-abbrev pub less_erased : Block → Block → Bool
-less_erased x y = nat_le x.erased y.erased
+abbrev pub less_erased : Counted ℕ → Counted ℕ → Bool
+less_erased x y = nat_le x.count y.count
 
--- a free entry is at most every entry; of two held ones the heat decides, and then the time of the last use
-abbrev pub colder : Entry → Entry → Bool
-colder Free other = true
-colder (Held heat used) Free = false
-colder (Held heat used) (Held heat' used') = nat_lt heat heat' || (heat == heat' && nat_le used used')
+-- of two held entries the heat decides, and then the time of the last use
+abbrev pub held_colder : Held → Held → Bool
+held_colder x y = nat_lt x.heat y.heat || (x.heat == y.heat && nat_le x.used y.used)
+
+-- a free entry is at most every entry, and two held ones go by their heat and time
+abbrev pub colder : Option Held → Option Held → Bool
+colder = none_first held_colder

@@ -1,23 +1,14 @@
+ghost use Rattle.least.specs.Least.{LeastOrNone};
 ghost use Rattle.least_tests.specs.Orders.{less_erased};
-ghost use Rattle.std.proofs.Common.{rules};
 
-use least::Order;
+use least::{Counted, least};
 
-// A block and how often it was erased. Only the count is compared, so two different blocks may each be at most the other.
-#[derive(Clone, Copy)]
-pub struct Block {
-    pub number: u16,
-    pub erased: u32,
-}
+// A block by its number, and how often it was erased.
+pub type Block = Counted<u16>;
 
-impl Order for Block {
-    ghost at_most = { less_erased };
-
-    ghost total = { Prim.search rules };
-
-    ghost transitive = { Prim.search rules };
-
-    fn at_most(&self, other: &Block) -> bool {
-        self.erased <= other.erased
-    }
+// The place of a least erased block, or none where there are no blocks.
+pub fn least_erased(blocks: &[Block]) -> Option<usize>
+    ensures answer { LeastOrNone less_erased blocks.now result }
+{
+    least(blocks)
 }

@@ -1,34 +1,34 @@
-ghost use Rattle.least_tests.specs.Orders.{colder};
+ghost use Rattle.least.specs.Least.{LeastOrNone};
+ghost use Rattle.least_tests.specs.Orders.{colder, held_colder};
 ghost use Rattle.std.proofs.Common.{rules};
 
-use least::Order;
+use least::{Order, least};
 
-// An entry of a store: free, or held with its heat and the time of its last use.
-#[derive(Clone, Copy)]
-pub enum Entry {
-    Free,
-    Held { heat: u8, used: u64 },
+// A held entry of a store: its heat and the time of its last use. The heat decides, and between equal heats the time.
+#[derive(Clone, Copy, PartialEq, Eq, PartialOrd, Ord)]
+pub struct Held {
+    pub heat: u8,
+    pub used: u64,
 }
 
-// A free entry comes first. Held entries go by their heat, and those of one heat by the time of their last use.
-impl Order for Entry {
-    ghost at_most = { colder };
+impl Order for Held {
+    ghost at_most = { held_colder };
 
     ghost total = { Prim.search rules };
 
     ghost transitive = { Prim.search rules };
 
-    fn at_most(&self, other: &Entry) -> bool {
-        match (*self, *other) {
-            (Entry::Free, _) => true,
-            (Entry::Held { .. }, Entry::Free) => false,
-            (
-                Entry::Held { heat, used },
-                Entry::Held {
-                    heat: other_heat,
-                    used: other_used,
-                },
-            ) => { heat < other_heat || heat == other_heat && used <= other_used }
-        }
+    fn at_most(&self, other: &Self) -> bool {
+        self <= other
     }
+}
+
+// An entry of a store: none where it is free, which comes first, or held.
+pub type Entry = Option<Held>;
+
+// The place of a coldest entry, or none where there are no entries.
+pub fn coldest(entries: &[Entry]) -> Option<usize>
+    ensures answer { LeastOrNone colder entries.now result }
+{
+    least(entries)
 }

@@ -6,5 +6,5 @@ mod entry;
 #[cfg(test)]
 mod tests;
 
-pub use block::Block;
-pub use entry::Entry;
+pub use block::{Block, least_erased};
+pub use entry::{Entry, Held, coldest};
