@@ -15,8 +15,11 @@ use window::Window;
 // Pages to a block in both memories.
 const PAGES: usize = 2;
 
-// Three blocks of 8 + 256 * 2 bytes.
-const MEMORY: usize = 1560;
+// Three blocks, of 8 bytes and of 256 bytes a page.
+const MEMORY: usize = 3 * (8 + 256 * PAGES);
+
+// Blocks that the window shows.
+const BLOCKS: usize = 4;
 
 fn main(rt: HostRuntime) -> io::Result<()> {
     let mut first = [0; MEMORY];
@@ -25,7 +28,7 @@ fn main(rt: HostRuntime) -> io::Result<()> {
         MemoryPart::fresh(&mut first, PAGES, 100),
         MemoryPart::fresh(&mut second, PAGES, 50),
     );
-    let mut part = Window::new(pair, 1, 4);
+    let mut part = Window::new(pair, 1, BLOCKS);
     parts::demonstrate(&rt, &mut part)?;
     prints::demonstrate(&rt)?;
     promises::demonstrate(&rt)
