@@ -21,7 +21,7 @@ module _ {R X : Type 0} (read : R → X) (at_most : X → X → Bool) (total : (
   IsNumbered all = (k : ℕ) (d : ℕ × R) → k < length all → (get_or all k d).0 ≡ k
 
   -- The place of the first best is the place of a least record.
-  LeastAt-from_first_best : (all : List (ℕ × R)) (b : ℕ) (d : ℕ × R) → IsFirstBest below all (length all) b → LeastAt at_most (map (λ p. read p.1) all) b
+  LeastAt-from_first_best : (all : List (ℕ × R)) (b : ℕ) (e : ℕ × R) → IsFirstBest below all (length all) b → LeastAt at_most (map (λ p. read p.1) all) b
   LeastAt-from_first_best all b e best = (rw length-map best.0, λ k d inside. grind (arith, length-map, get_or-map (λ (p : ℕ × R). read p.1) all b e d, get_or-map (λ (p : ℕ × R). read p.1) all k e d, not-false, best.1 k e))
 
   -- The number of the best is the place of a least record.
