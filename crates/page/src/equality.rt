@@ -5,13 +5,13 @@ ghost use Rattle.page.specs.Same.{same_bytes};
 const STRIDE: usize = 8;
 
 // Whether two pages hold the same 256 bytes, each byte at the same place. It stops at the first turn that finds a difference.
+#[tactic(auto, using(crate::proofs::Same::same_decides))]
 pub fn equal(a: &[u8; 256], b: &[u8; 256]) -> bool
     ensures value { result ≡ same_bytes a.now b.now }
     ensures same { result ≡ true → a.now ≡ b.now }
     ensures different { result ≡ false → a.now ≢ b.now }
 {
-    let mut i = 0;
-    while i < 256 {
+    for i in (0..256).step_by(STRIDE) {
         let first = (a[i] == b[i]) & (a[i + 1] == b[i + 1]);
         let second = (a[i + 2] == b[i + 2]) & (a[i + 3] == b[i + 3]);
         let third = (a[i + 4] == b[i + 4]) & (a[i + 5] == b[i + 5]);
@@ -19,7 +19,6 @@ pub fn equal(a: &[u8; 256], b: &[u8; 256]) -> bool
         if !(first & second & (third & fourth)) {
             return false;
         }
-        i += STRIDE;
     }
     true
 }
