@@ -1,4 +1,3 @@
 pub mod Sample
 pub mod Fletcher
-pub mod Sums
 pub mod Examples

@@ -1,12 +1,8 @@
-ghost use Rattle.std.specs.Prelude.{◌≡◌, ◌+◌, ◌-◌, ◌*◌, ◌%◌, ◌<◌, ◌≤◌, length, drop, slice_index};
-ghost use Rattle.fingerprint.specs.Sums.{Reduced};
+ghost use Rattle.std.specs.Prelude.{◌≡◌, ℕ, List, ◌+◌, ◌*◌, ◌%◌, ◌<◌, ◌≤◌, ◌++◌, length};
 ghost use Rattle.fingerprint.specs.Fletcher.{words_of, fletcher_from};
 
 // What the sums are reduced by.
 const MODULUS: u64 = 65_535;
-
-// A turn of the fast loop takes four words.
-pub const GROUP: usize = 8;
 
 // The most bytes that are summed before the sums are reduced: few enough that neither sum passes 64 bits.
 pub const BLOCK: usize = 65_536;
@@ -16,31 +12,32 @@ pub const BLOCK: usize = 65_536;
 pub struct Sums {
     pub a: u64,
     pub b: u64,
+    ghost a_reduced: { a < 65535 },
+    ghost b_reduced: { b < 65535 },
 }
 
 impl Sums {
-    // The sums after the words that stand from `start` to `end`. A reduction at every word is slow, so there is one at the end.
-    pub(crate) fn after_block(self, bytes: &[u8], start: usize, end: usize) -> Sums
-        requires reduced { Reduced self }
-        requires within { (start ≤ end) × (end ≤ length bytes.now) }
-        requires groups { (end - start) % 8 ≡ 0 }
-        requires short { end - start ≤ 65536 }
-        ensures reduced { Reduced result }
-        ensures rest { fletcher_from result.a result.b (words_of (drop end bytes.now)) ≡ fletcher_from self.a self.b (words_of (drop start bytes.now)) }
+    // Before the first word both sums are zero.
+    pub(crate) fn new() -> Sums
+        ensures low { result.a ≡ 0 }
+        ensures high { result.b ≡ 0 }
+    {
+        Sums { a: 0, b: 0 }
+    }
+
+    // The sums after the words of a block, the low byte of each first. A reduction at every word is slow, so there is one at the end.
+    #[tactic(auto, using(crate::proofs::Words::word_more))]
+    pub(crate) fn after_block(self, block: &[u8]) -> Sums
+        requires whole { length block.now % 2 ≡ 0 }
+        requires short { length block.now ≤ BLOCK }
+        ensures sums { (more : List ℕ) → fletcher_from result.a result.b (words_of more) ≡ fletcher_from self.a self.b (words_of (block.now ++ more)) }
     {
         let mut a = self.a;
         let mut b = self.b;
-        let mut i = start;
-        while i < end {
-            a += u64::from(word(bytes, i));
+        for place in 0..block.len() / 2 {
+            let word = u16::from_le_bytes([block[2 * place], block[2 * place + 1]]);
+            a += u64::from(word);
             b += a;
-            a += u64::from(word(bytes, i + 2));
-            b += a;
-            a += u64::from(word(bytes, i + 4));
-            b += a;
-            a += u64::from(word(bytes, i + 6));
-            b += a;
-            i += GROUP;
         }
         Sums {
             a: a % MODULUS,
@@ -48,27 +45,8 @@ impl Sums {
         }
     }
 
-    // The sums after the words that stand from `start` to `end`, reduced at every word: for the few that fill no group.
-    pub(crate) fn after_words(self, bytes: &[u8], start: usize, end: usize) -> Sums
-        requires reduced { Reduced self }
-        requires within { (start ≤ end) × (end ≤ length bytes.now) }
-        requires words { (end - start) % 2 ≡ 0 }
-        ensures reduced { Reduced result }
-        ensures rest { fletcher_from result.a result.b (words_of (drop end bytes.now)) ≡ fletcher_from self.a self.b (words_of (drop start bytes.now)) }
-    {
-        let mut sums = self;
-        let mut i = start;
-        while i < end {
-            sums = sums.after_word(word(bytes, i));
-            i += 2;
-        }
-        sums
-    }
-
     // The sums after one more word.
     pub(crate) fn after_word(self, word: u16) -> Sums
-        requires reduced { Reduced self }
-        ensures reduced { Reduced result }
         ensures low { result.a ≡ (self.a + word) % 65535 }
         ensures high { result.b ≡ (self.b + (self.a + word) % 65535) % 65535 }
     {
@@ -76,21 +54,13 @@ impl Sums {
         let b = (self.b + a) % MODULUS;
         Sums { a, b }
     }
-
-    // The second sum is the high half of the number.
-    pub(crate) fn number(self) -> u32
-        requires reduced { Reduced self }
-        ensures value { result ≡ self.b * 65536 + self.a }
-    {
-        self.b as u32 * 65_536 + self.a as u32
-    }
 }
 
-// The word that stands at `i`, its low byte first.
-fn word(bytes: &[u8], i: usize) -> u16
-    requires { i + 1 < length bytes.now }
-    ensures value { result ≡ slice_index bytes.now i + slice_index bytes.now (i + 1) * 256 }
-    ensures bound { result ≤ 65535 }
-{
-    u16::from_le_bytes([bytes[i], bytes[i + 1]])
+// The second sum is the high half of the number.
+impl From<Sums> for u32 {
+    ghost from_gives = { λ sums number. number ≡ sums.b * 65536 + sums.a };
+
+    fn from(sums: Sums) -> u32 {
+        sums.b as u32 * 65_536 + sums.a as u32
+    }
 }

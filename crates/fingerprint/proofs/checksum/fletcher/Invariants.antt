@@ -1,14 +1,11 @@
-use Rattle.std.proofs.Common.{◌≡◌, ◌-◌, ◌%◌, ◌≤◌, drop}
-use Rattle.fingerprint.specs.Sums.{Reduced}
+use Rattle.std.proofs.Common.{◌≡◌, ◌%◌, ◌++◌, length}
+use Rattle.std.specs.Slice.Iter.{chunks_rest, chunks_size}
+use Rattle.fingerprint.specs.declared.sums.TheConstants.{BLOCK}
 use Rattle.fingerprint.specs.Fletcher.{words_of, fletcher_from, fletcher_of}
 use Rattle.fingerprint.proofs.checksum.fletcher.Given as goal
 
--- the sums are reduced, whole groups are left before the rest, and with the sums so far they give the number of all bytes
-abbrev pub invariant-loop-start : goal.invariant-loop-start
-invariant-loop-start l =
-    Reduced l.sums
-    × (l.start ≤ l.whole) × ((l.whole - l.start) % 8 ≡ 0)
-    × (fletcher_from l.sums.a l.sums.b (words_of (drop l.start l.bytes)) ≡ fletcher_of l.bytes)
-
-abbrev pub decreases-loop-start : goal.decreases-loop-start
-decreases-loop-start l = l.whole - l.start
+-- Whole words are left, and with them and the odd byte the sums give the number of all bytes.
+abbrev pub invariant-loop-block : goal.invariant-loop-block
+invariant-loop-block l =
+    (chunks_size l.block-iterator ≡ BLOCK) × (length (chunks_rest l.block-iterator) % 2 ≡ 0)
+    × (fletcher_from l.sums.a l.sums.b (words_of (chunks_rest l.block-iterator ++ l.odd)) ≡ fletcher_of l.bytes)
