@@ -10,6 +10,6 @@ impl Fingerprint for Sample {
     ghost print = { λ _ bytes. sample_of bytes };
 
     fn of(&self, page: &[u8; 256]) -> u32 {
-        u32::from_be_bytes([page[0], page[1], page[2], page[3]])
+        u32::from_be_bytes(*page.first_chunk::<4>().unwrap())
     }
 }

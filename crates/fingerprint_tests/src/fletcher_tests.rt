@@ -5,8 +5,7 @@ fn pages_of_the_worked_examples(rt: HostRuntime) {
     let zeros = [0; 256];
     assert_eq!(rt; Fletcher.of(&zeros), 0);
     let mut two_full = zeros;
-    two_full[0] = 255;
-    two_full[1] = 255;
+    two_full[..2].fill(255);
     assert_eq!(rt; Fletcher.of(&two_full), 0);
     let mut one = zeros;
     one[0] = 1;

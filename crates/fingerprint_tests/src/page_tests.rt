@@ -1,11 +1,9 @@
 use page::equal;
+use std::array;
 
 #[test]
 fn a_page_equals_its_copy(rt: HostRuntime) {
-    let mut page = [0; 256];
-    for i in 0..256 {
-        page[i] = (i % 251) as u8;
-    }
+    let page = array::from_fn(|i| (i % 251) as u8);
     let copy = page;
     assert!(rt; equal(&page, &copy));
 }
@@ -42,7 +40,6 @@ fn each_byte_counts(rt: HostRuntime) {
 fn pages_with_one_fingerprint(rt: HostRuntime) {
     let zeros = [0; 256];
     let mut two_full = zeros;
-    two_full[0] = 255;
-    two_full[1] = 255;
+    two_full[..2].fill(255);
     assert!(rt; !equal(&zeros, &two_full));
 }

@@ -6,9 +6,7 @@ fn first_byte_is_highest(rt: HostRuntime) {
     assert_eq!(rt; Sample.of(&page), 0);
     page[0] = 1;
     assert_eq!(rt; Sample.of(&page), 16_777_216);
-    page[1] = 2;
-    page[2] = 3;
-    page[3] = 4;
+    page[1..4].copy_from_slice(&[2, 3, 4]);
     assert_eq!(rt; Sample.of(&page), 0x0102_0304);
 }
 

@@ -6,8 +6,7 @@ use fingerprint::{Fletcher, Sample};
 fn each_kind_has_its_own_pairs(rt: HostRuntime) {
     let zeros = [0; 256];
     let mut two_full = zeros;
-    two_full[0] = 255;
-    two_full[1] = 255;
+    two_full[..2].fill(255);
     assert!(rt; share_a_number(&Fletcher, &zeros, &two_full));
     assert!(rt; !share_a_number(&Sample, &zeros, &two_full));
     let mut last = zeros;
