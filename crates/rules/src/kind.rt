@@ -5,21 +5,18 @@ ghost use Rattle.rules.specs.Numbers.{kind_number};
 #[derive(Clone, Copy, PartialEq, Eq, Debug)]
 pub enum Kind {
     // The bytes were programmed.
-    Stored,
+    Stored = 0,
     // A page in use held equal bytes already, and is now referred to once more.
-    Shared,
+    Shared = 1,
     // The host page held equal bytes already.
-    Unchanged,
+    Unchanged = 2,
 }
 
 impl Kind {
+    // The number that stands for the rule.
     pub fn number(self) -> u8
         ensures value { result ≡ kind_number self }
     {
-        match self {
-            Kind::Stored => 0,
-            Kind::Shared => 1,
-            Kind::Unchanged => 2,
-        }
+        self as u8
     }
 }

@@ -36,8 +36,6 @@ impl fmt::Display for Refusal {
     ghost output = { λ e. Some (refusal_text e) };
 
     fn fmt<W: fmt::Write>(&self, f: &mut fmt::Formatter<W>) -> fmt::Result {
-        let number = self.number();
-        let words = self.words();
-        write!(f, "{number} ({words})")
+        write!(f, "{} ({})", self.number(), self.words())
     }
 }

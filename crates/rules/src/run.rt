@@ -11,15 +11,7 @@ impl Call {
     pub fn is_host(&self) -> bool
         ensures value { result ≡ is_host (call_of self.now) }
     {
-        match self {
-            Call::Write(_, _) => true,
-            Call::Read(_, _) => true,
-            Call::Trim(_) => true,
-            Call::Collect => false,
-            Call::Scan => false,
-            Call::Usage => false,
-            Call::Save(_) => false,
-        }
+        matches!(self, Call::Write(..) | Call::Read(..) | Call::Trim(_))
     }
 }
 
