@@ -15,7 +15,7 @@ mod want_of_memory;
 
 pub use answer::{Answer, Usage, Written};
 pub use call::Call;
-pub use examples::worked_sizes;
+pub use examples::{SizeTable, worked_sizes};
 pub use kind::Kind;
 pub use promise::promise_is_kept;
 pub use refusal::Refusal;
