@@ -9,14 +9,15 @@ use Rattle.rules.specs.declared.refusal.Refusal.TheVariants.{WornOut, NoSuchPage
 use Rattle.rules.specs.declared.kind.Kind.TheVariants.{Stored, Shared, Unchanged}
 use Rattle.rules.specs.declared.answer.Written.{Written}
 use Rattle.rules.specs.declared.answer.Usage.{Usage}
-use Rattle.rules.specs.declared.answer.Answer.TheVariants.{Wrote, Page, Number, Used}
+use Rattle.rules.specs.declared.answer.Reply.TheVariants.{Wrote, Page, Number, Used}
 use Rattle.rules.specs.State.{Bytes, Entry, State, tally, block_count, per_block, flash_pages, host_pages, content, in_use, is_clean, hotness, clean_blocks, live_in, live_pages, dead_pages, unwritten_pages, held}
 use Rattle.rules.specs.Tables.{next_page, merged}
 use Rattle.rules.specs.Store.{entry_at, Offers}
 use Rattle.rules.specs.Calls.{Ready, Stores, Holds, NoneOffered, Writes, Reads, Trims, Collects, Copies, Merges}
 use Rattle.rules.specs.Image.{image_length}
 use Rattle.rules.specs.Stands.{Stands}
-use Rattle.rules.specs.Runs.{Saves, answer_of}
+use Rattle.rules.specs.Answers.{answer_of}
+use Rattle.rules.specs.Runs.{Saves}
 use Rattle.rules.specs.Runs.Call.{write, read, trim, collect, scan, usage, save}
 use Rattle.rules.specs.Theorems.{EveryCallAnswered}
 use Rattle.rules.proofs.Cases.{none_some}
@@ -210,8 +211,8 @@ every_call_answered print s (read n len) h = let r = read_some s n len in (answe
 every_call_answered print s (trim n) h = let r = trim_some s n in (answer_of Number r.0, r.1, (r.0, refl, r.2))
 every_call_answered print s collect h = let r = collect_some print s h in (answer_of Number r.0, r.1, (r.0, refl, r.2))
 every_call_answered print s scan h =
-    let r = merges_some print (live_pages s) s (mid print s h) (omega arith) in (Number r.0, r.1, (Ok r.0, refl, r.2))
+    let r = merges_some print (live_pages s) s (mid print s h) (omega arith) in (Ok (Number r.0), r.1, (Ok r.0, refl, r.2))
 every_call_answered print s usage h =
     let u : Usage = record { live = live_pages s; dead = dead_pages s; unwritten = unwritten_pages s } in
-    (Used u, s, (Ok u, refl, (refl, refl, refl, refl)))
+    (Ok (Used u), s, (Ok u, refl, (refl, refl, refl, refl)))
 every_call_answered print s (save len) h = let r = save_some s len in (answer_of Number r.0, r.1, (r.0, refl, r.2))

@@ -6,12 +6,13 @@ use Rattle.rules.specs.declared.kind.Kind.{Kind}
 use Rattle.rules.specs.declared.kind.Kind.TheVariants.{Stored, Shared, Unchanged}
 use Rattle.rules.specs.declared.answer.Written.{Written}
 use Rattle.rules.specs.declared.answer.Usage.{Usage}
-use Rattle.rules.specs.declared.answer.Answer.TheVariants.{Wrote, Page, Number, Used}
+use Rattle.rules.specs.declared.answer.Reply.TheVariants.{Wrote, Page, Number, Used}
 use Rattle.rules.specs.Numbers.{refusal_number}
 use Rattle.rules.specs.State.{Bytes, State, live_in, live_pages, held, page_map}
 use Rattle.rules.specs.Calls.{Candidate, Victim, Ready, Readied, NoneOffered, WritesAs, Writes, Reads, Trims, Collects, Scans, Asks}
 use Rattle.rules.specs.Stands.{Stands}
-use Rattle.rules.specs.Runs.{Saves, answer_of}
+use Rattle.rules.specs.Answers.{answer_of}
+use Rattle.rules.specs.Runs.{Saves}
 use Rattle.rules.specs.Runs.Call.{write, read, trim, collect, scan, usage, save}
 use Rattle.rules.specs.Promise.{contents, different}
 use Rattle.rules.specs.Theorems.{AnswersDecided}

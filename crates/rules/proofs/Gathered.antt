@@ -2,13 +2,13 @@
 use Rattle.std.proofs.Common.{◌≡◌, ℕ, true, false, Ok, Err, Result, sym, refl, ap, ◌∙◌}
 use Rattle.std.proofs.lemmas.Bool.{both_ways}
 use Rattle.rules.specs.declared.refusal.Refusal.{Refusal}
-use Rattle.rules.specs.declared.answer.Answer.{Answer}
-use Rattle.rules.specs.declared.answer.Answer.TheVariants.{Wrote, Page, Number, Used}
+use Rattle.rules.specs.declared.answer.Reply.{Reply}
+use Rattle.rules.specs.declared.answer.Reply.TheVariants.{Wrote, Page, Number, Used}
 use Rattle.rules.specs.State.{Bytes, State, page_map}
 use Rattle.rules.specs.Calls.{Writes, Reads, Trims, Collects, Scans, Asks}
-use Rattle.rules.specs.Runs.{Call, Saves, answer_of, Step}
+use Rattle.rules.specs.Answers.{Answer, answer_of, is_refusal}
+use Rattle.rules.specs.Runs.{Call, Saves, Step}
 use Rattle.rules.specs.Runs.Call.{write, read, trim, collect, scan, usage, save}
-use Rattle.rules.specs.Promise.{is_refusal}
 use Rattle.rules.specs.Theorems.{AlwaysStands, AnswersAsPageMap, KeepsPages, HasWhatRulesNeed}
 use Rattle.rules.proofs.Steps.{step_outcome}
 use Rattle.rules.proofs.Made.{made_stands}
@@ -24,19 +24,19 @@ pub answers_as_page_map : AnswersAsPageMap
 answers_as_page_map print s c a t h step = (step_outcome print s c a t h step).plain
 
 -- An answer that is a refusal comes of a refused result.
-refused_result : {X : Type 0} (shown : X → Answer) (r : Result X Refusal) (a : Answer) (T : Result X Refusal → Type 0)
-    → ((x : X) → is_refusal (shown x) ≡ false) → a ≡ answer_of shown r → is_refusal a ≡ true → T r → (e : Refusal) × T (Err e)
-refused_result shown (Ok x) a T never is bad rule = absurd (both_ways (is_refusal (shown x)) (never x) (ap is_refusal (sym is) ∙ bad))
-refused_result shown (Err e) a T never is bad rule = (e, rule)
+refused_result : {X : Type 0} (reply : X → Reply) (r : Result X Refusal) (a : Answer) (T : Result X Refusal → Type 0)
+    → a ≡ answer_of reply r → is_refusal a ≡ true → T r → (e : Refusal) × T (Err e)
+refused_result reply (Ok x) a T is bad rule = absurd (both_ways false refl (ap is_refusal (sym is) ∙ bad))
+refused_result reply (Err e) a T is bad rule = (e, rule)
 
 unchanged : (print : Bytes → ℕ) (s : State) (c : Call) (a : Answer) (t : State) → Step print s c a t → is_refusal a ≡ true → t ≡ s
-unchanged print s (write n x) a t (r, is, rule) bad = (refused_result Wrote r a (λ y. Writes print s n x y t) (λ w. refl) is bad rule).1.0
-unchanged print s (read n len) a t (r, is, rule) bad = (refused_result Page r a (λ y. Reads s n len y t) (λ w. refl) is bad rule).1.0
-unchanged print s (trim n) a t (r, is, rule) bad = (refused_result Number r a (λ y. Trims s n y t) (λ w. refl) is bad rule).1.0
-unchanged print s collect a t (r, is, rule) bad = (refused_result Number r a (λ y. Collects s y t) (λ w. refl) is bad rule).1.0
-unchanged print s scan a t (r, is, rule) bad = absurd (refused_result Number r a (λ y. Scans s y t) (λ w. refl) is bad rule).1
-unchanged print s usage a t (r, is, rule) bad = absurd (refused_result Used r a (λ y. Asks s y t) (λ w. refl) is bad rule).1
-unchanged print s (save len) a t (r, is, rule) bad = (refused_result Number r a (λ y. Saves s len y t) (λ w. refl) is bad rule).1.0
+unchanged print s (write n x) a t (r, is, rule) bad = (refused_result Wrote r a (λ y. Writes print s n x y t) is bad rule).1.0
+unchanged print s (read n len) a t (r, is, rule) bad = (refused_result Page r a (λ y. Reads s n len y t) is bad rule).1.0
+unchanged print s (trim n) a t (r, is, rule) bad = (refused_result Number r a (λ y. Trims s n y t) is bad rule).1.0
+unchanged print s collect a t (r, is, rule) bad = (refused_result Number r a (λ y. Collects s y t) is bad rule).1.0
+unchanged print s scan a t (r, is, rule) bad = absurd (refused_result Number r a (λ y. Scans s y t) is bad rule).1
+unchanged print s usage a t (r, is, rule) bad = absurd (refused_result Used r a (λ y. Asks s y t) is bad rule).1
+unchanged print s (save len) a t (r, is, rule) bad = (refused_result Number r a (λ y. Saves s len y t) is bad rule).1.0
 
 pub keeps_pages : KeepsPages
 keeps_pages = record {

@@ -4,12 +4,12 @@ use Rattle.std.proofs.lemmas.Bool.{cases_Bool, both_ways, cond-true, cond-false}
 use Rattle.flash.specs.Part.{wear}
 use Rattle.rules.specs.declared.refusal.Refusal.{Refusal}
 use Rattle.rules.specs.declared.answer.Usage.{Usage}
-use Rattle.rules.specs.declared.answer.Answer.{Answer}
-use Rattle.rules.specs.declared.answer.Answer.TheVariants.{Used}
+use Rattle.rules.specs.declared.answer.Reply.TheVariants.{Used}
 use Rattle.rules.specs.State.{Bytes, State, live_pages, page_map}
 use Rattle.rules.specs.Calls.{Asks}
 use Rattle.rules.specs.Stands.{Stands}
-use Rattle.rules.specs.Runs.{Call, answer_of, Run, Life}
+use Rattle.rules.specs.Answers.{Answer, answer_of}
+use Rattle.rules.specs.Runs.{Call, Run, Life}
 use Rattle.rules.specs.Runs.Call.{write, read, trim, collect, scan, usage, save}
 use Rattle.rules.specs.Promise.{seen, is_host, host_calls, SameAnswers, stored_and_moved, settled_from, Promise}
 use Rattle.rules.specs.Promise.Seen.{refused}
@@ -100,7 +100,7 @@ life_stands l = (run_keeps l.print l.start l.history l.end (made_stands l.print 
 
 -- A usage question is answered with the pages in use.
 usage_asked : (s : State) (r : Result Usage Refusal) (a : Answer) (t : State) → a ≡ answer_of Used r → Asks s r t
-    → (u : Usage) × (a ≡ Used u) × (u.live ≡ live_pages s)
+    → (u : Usage) × (a ≡ Ok (Used u)) × (u.live ≡ live_pages s)
 usage_asked s (Ok u) a t is (same, live, dead, unwritten) = (u, is, live)
 usage_asked s (Err e) a t is never = absurd never
 

@@ -7,14 +7,14 @@ use Rattle.rules.specs.declared.kind.Kind.{Kind}
 use Rattle.rules.specs.declared.kind.Kind.TheVariants.{Stored, Shared, Unchanged}
 use Rattle.rules.specs.declared.answer.Written.{Written}
 use Rattle.rules.specs.declared.answer.Usage.{Usage}
-use Rattle.rules.specs.declared.answer.Answer.{Answer}
-use Rattle.rules.specs.declared.answer.Answer.TheVariants.{Refused, Wrote, Page, Number, Used}
+use Rattle.rules.specs.declared.answer.Reply.TheVariants.{Wrote, Page, Number, Used}
 use Rattle.rules.specs.Numbers.{refusal_number}
 use Rattle.rules.specs.State.{Bytes, State, no_page, host_pages, names, leads, content, in_use, is_written, live_pages, held, page_map}
 use Rattle.rules.specs.Tables.{next_page, lifted, repoint}
 use Rattle.rules.specs.Calls.{Ready, Readied, Stores, WritesAs, Writes, Reads, Trims, Collects, Scans, Asks, NoneOffered, NoHostPage, WrongLength, EmptyPage, NoRoom}
 use Rattle.rules.specs.Stands.{Stands}
-use Rattle.rules.specs.Runs.{Call, Saves, answer_of, Step}
+use Rattle.rules.specs.Answers.{Answer, answer_of}
+use Rattle.rules.specs.Runs.{Call, Saves, Step}
 use Rattle.rules.specs.Runs.Call.{write, read, trim, collect, scan, usage, save}
 use Rattle.rules.specs.Promise.{seen, stored_by, moved_by, settled_by, contents, different}
 use Rattle.rules.specs.Promise.Seen.{refused, number}
@@ -57,15 +57,15 @@ module _ (s : State) (n : ℕ) where
   missing x y h = cond-false (ltb n (length (page_map s))) x y (le-ltb n (length (page_map s)) (omega (arith, h, map_length s)))
 
 -- A refusal with the number k is seen as such.
-refused_as : (e : Refusal) (k : ℕ) → refusal_number e ≡ k → seen (Refused e) ≡ refused k
+refused_as : (e : Refusal) (k : ℕ) → refusal_number e ≡ k → seen (Err e) ≡ refused k
 refused_as e k is = ap refused is
 
 write_refused : (print : Bytes → ℕ) (s : State) (n : ℕ) (x : Bytes) (e : Refusal) (t : State) → Stands print s
-    → Writes print s n x (Err e) t → Outcome print s (write n x) (Refused e) t
+    → Writes print s n x (Err e) t → Outcome print s (write n x) (Err e) t
 write_refused print s n x e t h (is, why) =
-    idle print s (write n x) (Refused e) t h is (plain why) refl (λ so now. now)
+    idle print s (write n x) (Err e) t h is (plain why) refl (λ so now. now)
   where
-    plain : NoHostPage s n e ⊎ (WrongLength s n (length x) e ⊎ NoRoom print s n x e) → Plain (page_map s) (write n x) (Refused e) (page_map s)
+    plain : NoHostPage s n e ⊎ (WrongLength s n (length x) e ⊎ NoRoom print s n x e) → Plain (page_map s) (write n x) (Err e) (page_map s)
     plain (inl (four, out)) =
         inr (
           λ host. refused_as e 4 four ∙ sym (missing s n _ _ out),
@@ -81,7 +81,7 @@ write_refused print s n x e t h (is, why) =
 
 -- An accepted write sets its page.
 wrote : (s t : State) (n : ℕ) (x : Bytes) (w : Written) → n < host_pages s → length x ≡ 256 → page_map t ≡ set (page_map s) n (Some x)
-    → Plain (page_map s) (write n x) (Wrote w) (page_map t)
+    → Plain (page_map s) (write n x) (Ok (Wrote w)) (page_map t)
 wrote s t n x w inside whole is =
     inr (
       λ host. sym (there s n _ _ inside ∙ cond-true (eqb (length x) 256) _ _ (eq-eqb (length x) 256 whole)),
@@ -89,9 +89,9 @@ wrote s t n x w inside whole is =
     )
 
 write_unchanged : (print : Bytes → ℕ) (s : State) (n : ℕ) (x : Bytes) (moved : ℕ) (t : State) → Stands print s → n < host_pages s → length x ≡ 256
-    → WritesAs print s n x Unchanged moved t → Outcome print s (write n x) (Wrote (record { kind = Unchanged; moved = moved })) t
+    → WritesAs print s n x Unchanged moved t → Outcome print s (write n x) (Ok (Wrote (record { kind = Unchanged; moved = moved }))) t
 write_unchanged print s n x moved t h inside whole (holds, none, is) =
-    subst (Outcome print s (write n x) (Wrote (record { kind = Unchanged; moved = moved }))) (sym is)
+    subst (Outcome print s (write n x) (Ok (Wrote (record { kind = Unchanged; moved = moved })))) (sym is)
     (record {
       standing = h;
       plain = wrote s s n x (record { kind = Unchanged; moved = moved }) inside whole (map-set s s n (Some x) inside refl holds (λ m l ne. refl));
@@ -106,9 +106,9 @@ same_spare print s t h is m =
     (subst (λ (y : Part). (b : ℕ) × (b < length y.blocks) × (eqb (written y b) 0 ≡ true)) (sym is) h.blocks.spare)
 
 write_shared : (print : Bytes → ℕ) (s : State) (n : ℕ) (x : Bytes) (moved : ℕ) (t : State) → Stands print s → n < host_pages s → length x ≡ 256
-    → WritesAs print s n x Shared moved t → Outcome print s (write n x) (Wrote (record { kind = Shared; moved = moved })) t
+    → WritesAs print s n x Shared moved t → Outcome print s (write n x) (Ok (Wrote (record { kind = Shared; moved = moved }))) t
 write_shared print s n x moved t h inside whole (other, none, (q, e, offers, entry, is)) =
-    subst (Outcome print s (write n x) (Wrote (record { kind = Shared; moved = moved }))) (sym is)
+    subst (Outcome print s (write n x) (Ok (Wrote (record { kind = Shared; moved = moved })))) (sym is)
     (record {
       standing = same_spare print s (repoint v n k) h part_same (pointed_mid print v n k v_mid in_v fit);
       plain = wrote s (repoint v n k) n x (record { kind = Shared; moved = moved }) inside whole
@@ -160,11 +160,11 @@ write_shared print s n x moved t h inside whole (other, none, (q, e, offers, ent
 store_ready : (print : Bytes → ℕ) (s : State) (n : ℕ) (x : Bytes) (moved : ℕ) (u t : State) → n < host_pages s → length x ≡ 256
     → Stands print u → Ready u → host_pages u ≡ host_pages s → ((m : ℕ) → m < host_pages s → held u m ≡ held s m)
     → NoneOffered print u x → wear u.part ≡ wear s.part + moved → Stores print u n x t
-    → Outcome print s (write n x) (Wrote (record { kind = Stored; moved = moved })) t
+    → Outcome print s (write n x) (Ok (Wrote (record { kind = Stored; moved = moved }))) t
 store_ready print s n x moved u t inside whole h ready hosts same none worn (b, after, takes, entered, is) =
     let in_u : n < host_pages u = subst (λ c. n < c) (sym hosts) inside in
     let end = repoint (record { part = appended u.part b x; words = u.words; shared = u.shared; store = after }) n (next_page u b) in
-    subst (Outcome print s (write n x) (Wrote (record { kind = Stored; moved = moved }))) (sym is)
+    subst (Outcome print s (write n x) (Ok (Wrote (record { kind = Stored; moved = moved })))) (sym is)
     (record {
       standing = stored_stands print u n x b after h in_u whole ready none takes entered;
       plain = wrote s end n x (record { kind = Stored; moved = moved }) inside whole
@@ -176,10 +176,10 @@ store_ready print s n x moved u t inside whole h ready hosts same none worn (b, 
     })
 
 write_stored : (print : Bytes → ℕ) (s : State) (n : ℕ) (x : Bytes) (moved : ℕ) (t : State) → Stands print s → n < host_pages s → length x ≡ 256
-    → WritesAs print s n x Stored moved t → Outcome print s (write n x) (Wrote (record { kind = Stored; moved = moved })) t
+    → WritesAs print s n x Stored moved t → Outcome print s (write n x) (Ok (Wrote (record { kind = Stored; moved = moved }))) t
 write_stored print s n x moved t h inside whole (other, none, (u, readied, stores)) = by readied
   where
-    by : Readied s moved u → Outcome print s (write n x) (Wrote (record { kind = Stored; moved = moved })) t
+    by : Readied s moved u → Outcome print s (write n x) (Ok (Wrote (record { kind = Stored; moved = moved }))) t
     by (inl (ready, zero_moved, is)) =
         store_ready print s n x moved s t inside whole h ready refl (λ m l. refl) none (omega (arith, zero_moved))
         (subst (λ y. Stores print y n x t) is stores)
@@ -190,7 +190,7 @@ write_stored print s n x moved t h inside whole (other, none, (u, readied, store
         (k.1 ∙ ap (λ c. wear s.part + c) (sym count)) stores
 
 write_accepted : (print : Bytes → ℕ) (s : State) (n : ℕ) (x : Bytes) (kind : Kind) (moved : ℕ) (t : State) → Stands print s → n < host_pages s
-    → length x ≡ 256 → WritesAs print s n x kind moved t → Outcome print s (write n x) (Wrote (record { kind = kind; moved = moved })) t
+    → length x ≡ 256 → WritesAs print s n x kind moved t → Outcome print s (write n x) (Ok (Wrote (record { kind = kind; moved = moved }))) t
 write_accepted print s n x Stored moved t h inside whole r = write_stored print s n x moved t h inside whole r
 write_accepted print s n x Shared moved t h inside whole r = write_shared print s n x moved t h inside whole r
 write_accepted print s n x Unchanged moved t h inside whole r = write_unchanged print s n x moved t h inside whole r
@@ -203,12 +203,12 @@ write_outcome print s n x (Err e) t h why = write_refused print s n x e t h why
 read_outcome : (print : Bytes → ℕ) (s : State) (n len : ℕ) (r : Result Bytes Refusal) (t : State) → Stands print s
     → Reads s n len r t → Outcome print s (read n len) (answer_of Page r) t
 read_outcome print s n len (Ok x) t h (is, inside, whole, has) =
-    idle print s (read n len) (Page x) t h is
+    idle print s (read n len) (Ok (Page x)) t h is
     (inr (λ host. sym (there s n _ _ inside ∙ cond-true (eqb len 256) _ _ (eq-eqb len 256 whole) ∙ ap shown (map_at s n inside ∙ has)), refl))
     refl (λ so now. now)
-read_outcome print s n len (Err e) t h (is, why) = idle print s (read n len) (Refused e) t h is (inr (λ host. said why, refl)) refl (λ so now. now)
+read_outcome print s n len (Err e) t h (is, why) = idle print s (read n len) (Err e) t h is (inr (λ host. said why, refl)) refl (λ so now. now)
   where
-    said : NoHostPage s n e ⊎ (WrongLength s n len e ⊎ EmptyPage s n len e) → seen (Refused e) ≡ plain_answer (page_map s) (read n len)
+    said : NoHostPage s n e ⊎ (WrongLength s n len e ⊎ EmptyPage s n len e) → seen (Err e) ≡ plain_answer (page_map s) (read n len)
     said (inl (four, out)) = refused_as e 4 four ∙ sym (missing s n _ _ out)
     said (inr (inl (five, inside, short))) =
         refused_as e 5 five ∙ sym (there s n _ _ inside ∙ cond-false (eqb len 256) _ _ (ne_eqb len 256 short))
@@ -218,10 +218,10 @@ read_outcome print s n len (Err e) t h (is, why) = idle print s (read n len) (Re
 trim_outcome : (print : Bytes → ℕ) (s : State) (n : ℕ) (r : Result ℕ Refusal) (t : State) → Stands print s
     → Trims s n r t → Outcome print s (trim n) (answer_of Number r) t
 trim_outcome print s n (Err e) t h (is, (four, out)) =
-    idle print s (trim n) (Refused e) t h is
+    idle print s (trim n) (Err e) t h is
     (inr (λ host. refused_as e 4 four ∙ sym (missing s n _ _ out), sym (map_past s n None out))) refl (λ so now. now)
 trim_outcome print s n (Ok had) t h (inside, count, is) =
-    subst (Outcome print s (trim n) (Number had)) (sym is)
+    subst (Outcome print s (trim n) (Ok (Number had))) (sym is)
     (record {
       standing = same_spare print s (repoint s n no_page) h part_same (pointed_mid print s n no_page m₀ inside fit);
       plain = inr (
@@ -249,7 +249,7 @@ trim_outcome print s n (Ok had) t h (inside, count, is) =
 collect_outcome : (print : Bytes → ℕ) (s : State) (r : Result ℕ Refusal) (t : State) → Stands print s
     → Collects s r t → Outcome print s collect (answer_of Number r) t
 collect_outcome print s (Err e) t h (is, why) =
-    idle print s collect (Refused e) t h is (inr (λ host. absurd (both_ways false refl host), refl)) refl (λ so now. now)
+    idle print s collect (Err e) t h is (inr (λ host. absurd (both_ways false refl host), refl)) refl (λ so now. now)
 collect_outcome print s (Ok moved) t h (v, victim, count, collected) =
     let k = collected_keeps print s v t (mid print s h) victim collected in
     let same = map_same s t k.0.same_hosts k.0.same_held in
@@ -276,14 +276,14 @@ usage_outcome : (print : Bytes → ℕ) (s : State) (r : Result Usage Refusal) (
     → Asks s r t → Outcome print s usage (answer_of Used r) t
 usage_outcome print s (Err e) t h never = absurd never
 usage_outcome print s (Ok u) t h (is, live, dead, unwritten) =
-    idle print s usage (Used u) t h is (inr (λ host. absurd (both_ways false refl host), refl)) refl (λ so now. now)
+    idle print s usage (Ok (Used u)) t h is (inr (λ host. absurd (both_ways false refl host), refl)) refl (λ so now. now)
 
 save_outcome : (print : Bytes → ℕ) (s : State) (len : ℕ) (r : Result ℕ Refusal) (t : State) → Stands print s
     → Saves s len r t → Outcome print s (save len) (answer_of Number r) t
 save_outcome print s len (Ok size) t h (is, size_is, fits) =
-    idle print s (save len) (Number size) t h is (inr (λ host. absurd (both_ways false refl host), refl)) refl (λ so now. now)
+    idle print s (save len) (Ok (Number size)) t h is (inr (λ host. absurd (both_ways false refl host), refl)) refl (λ so now. now)
 save_outcome print s len (Err e) t h (is, eight, short) =
-    idle print s (save len) (Refused e) t h is (inr (λ host. absurd (both_ways false refl host), refl)) refl (λ so now. now)
+    idle print s (save len) (Err e) t h is (inr (λ host. absurd (both_ways false refl host), refl)) refl (λ so now. now)
 
 pub step_outcome : (print : Bytes → ℕ) (s : State) (c : Call) (a : Answer) (t : State) → Stands print s → Step print s c a t
     → Outcome print s c a t

@@ -7,14 +7,14 @@ use Rattle.fingerprint.specs.Examples.{zeros, starts_with_one, starts_with_two_f
 use Rattle.rules.specs.declared.refusal.Refusal.TheVariants.{NothingToCollect}
 use Rattle.rules.specs.declared.kind.Kind.{Kind}
 use Rattle.rules.specs.declared.kind.Kind.TheVariants.{Stored, Shared, Unchanged}
-use Rattle.rules.specs.declared.answer.Answer.{Answer}
-use Rattle.rules.specs.declared.answer.Answer.TheVariants.{Refused, Wrote, Page, Number, Used}
+use Rattle.rules.specs.declared.answer.Reply.TheVariants.{Wrote, Page, Number, Used}
 use Rattle.rules.specs.State.{Bytes, Entry, State, host_pages, hotness, content, names, held, is_clean, is_closed, is_part_written, live_in}
 use Rattle.rules.specs.Tables.{next_page, programmed, repoint, moved_to}
 use Rattle.rules.specs.Store.{entry_at, Entered}
 use Rattle.rules.specs.Store.Entered.{takes}
 use Rattle.rules.specs.Calls.{HasPartWritten, Takes, dead_in, Victim, Ready, Stores, Holds, NoneOffered, WritesAs}
 use Rattle.rules.specs.Making.{Made}
+use Rattle.rules.specs.Answers.{Answer}
 use Rattle.rules.specs.Runs.{Step, Run}
 use Rattle.rules.specs.Runs.Call.{write, read, collect, usage}
 use Rattle.rules.specs.Examples.{fresh_part, example_start, WorkedSizes, wrote_as, example_history, ExampleLife, SecondWriteDecided}
@@ -47,10 +47,10 @@ at_once : (print : Bytes → ℕ) (s : State) (n : ℕ) (x : Bytes) → n < host
     → (a ≡ wrote_as Stored) × Stores print s n x t
 at_once print s n x inside whole ready other none a t (Ok w, is, (l, e, how)) = as_stored w.kind w.moved is how
   where
-    as_stored : (k : Kind) (moved : ℕ) → a ≡ Wrote (record { kind = k; moved = moved }) → WritesAs print s n x k moved t
+    as_stored : (k : Kind) (moved : ℕ) → a ≡ Ok (Wrote (record { kind = k; moved = moved })) → WritesAs print s n x k moved t
         → (a ≡ wrote_as Stored) × Stores print s n x t
     as_stored Stored moved says (out, offered, (u, inl (now, still, same), stores)) =
-        (says ∙ ap (λ i. Wrote (record { kind = Stored; moved = i })) still, subst (λ (v : State). Stores print v n x t) same stores)
+        (says ∙ ap (λ i. Ok (Wrote (record { kind = Stored; moved = i }))) still, subst (λ (v : State). Stores print v n x t) same stores)
     as_stored Stored moved says (out, offered, (u, inr (unready, collects), stores)) = absurd (unready ready)
     as_stored Shared moved says (out, still, (q, f, offers, free, is')) = absurd (none q offers)
     as_stored Unchanged moved says (holds, still, same) = absurd (other holds)
@@ -248,7 +248,7 @@ module _ (print : Bytes → ℕ) (Z H O : Bytes) (z_long : length Z ≡ 256) (h_
         refl,
       )
 
-  two_live : Step print (after_o print Z H O) usage (Used (record { live = 2; dead = 1; unwritten = 3 })) (after_o print Z H O)
+  two_live : Step print (after_o print Z H O) usage (Ok (Used (record { live = 2; dead = 1; unwritten = 3 }))) (after_o print Z H O)
   two_live = (Ok (record { live = 2; dead = 1; unwritten = 3 }), refl, (refl, refl, refl, refl))
 
   -- Block 0 is the one closed block; its page in use, Z, is moved to the part-written block 1.
@@ -259,12 +259,12 @@ module _ (print : Bytes → ℕ) (Z H O : Bytes) (z_long : length Z ≡ 256) (h_
         (λ t. lit≤ tt) (λ t. lit≤ tt) (λ t. absurd (both_ways false refl t)) b c.0.0 c.0.1,
   )
 
-  z_moved : Step print (after_o print Z H O) collect (Number 1) (after_collect print Z O)
+  z_moved : Step print (after_o print Z H O) collect (Ok (Number 1)) (after_collect print Z O)
   z_moved =
       (Ok 1, refl, (0, first_victim, refl, (moved_to (after_o print Z H O) 0 1, (1, (lit< tt, inl refl), refl), refl)))
 
   -- Then block 1 is the one closed block, and has no dead page.
-  none_dead : Step print (after_collect print Z O) collect (Refused NothingToCollect) (after_collect print Z O)
+  none_dead : Step print (after_collect print Z O) collect (Err NothingToCollect) (after_collect print Z O)
   none_dead = (
     Err NothingToCollect,
     refl,
@@ -279,12 +279,12 @@ module _ (print : Bytes → ℕ) (Z H O : Bytes) (z_long : length Z ≡ 256) (h_
     ),
   )
 
-  z_read : Step print (after_collect print Z O) (read 2 256) (Page Z) (after_collect print Z O)
+  z_read : Step print (after_collect print Z O) (read 2 256) (Ok (Page Z)) (after_collect print Z O)
   z_read = (Ok Z, refl, (refl, lit< tt, refl, refl))
 
   later : Run print (after_o print Z H O)
-      ((usage, Used (record { live = 2; dead = 1; unwritten = 3 }))
-      ∷ (collect, Number 1) ∷ (collect, Refused NothingToCollect) ∷ (read 2 256, Page Z) ∷ [])
+      ((usage, Ok (Used (record { live = 2; dead = 1; unwritten = 3 })))
+      ∷ (collect, Ok (Number 1)) ∷ (collect, Err NothingToCollect) ∷ (read 2 256, Ok (Page Z)) ∷ [])
       (after_collect print Z O)
   later = (_, two_live, (_, z_moved, (_, none_dead, (_, z_read, refl))))
 
@@ -294,8 +294,8 @@ module _ (print : Bytes → ℕ) (Z H O : Bytes) (z_long : length Z ≡ 256) (h_
       ∷ (write 2 Z, wrote_as Shared)
       ∷ (write 0 Z, wrote_as Unchanged)
       ∷ (write 1 O, wrote_as Stored)
-      ∷ (usage, Used (record { live = 2; dead = 1; unwritten = 3 }))
-      ∷ (collect, Number 1) ∷ (collect, Refused NothingToCollect) ∷ (read 2 256, Page Z) ∷ [])
+      ∷ (usage, Ok (Used (record { live = 2; dead = 1; unwritten = 3 })))
+      ∷ (collect, Ok (Number 1)) ∷ (collect, Err NothingToCollect) ∷ (read 2 256, Ok (Page Z)) ∷ [])
       (after_collect print Z O)
   life = (_, z_stored, (_, h_stored, (_, z_shared, (_, z_unchanged, (_, o_stored, later)))))
 

@@ -1,16 +1,16 @@
 -- Worked examples: the sizes at the bounds, and one whole life on a small part.
-use Rattle.std.specs.Prelude.{◌≡◌, ℕ, ◌*◌, List, [], ◌∷◌, length, replicate}
+use Rattle.std.specs.Prelude.{◌≡◌, ℕ, ◌*◌, List, [], ◌∷◌, length, replicate, Ok, Err}
 use Rattle.flash.specs.Part.{Part}
 use Rattle.fingerprint.specs.Fletcher.{fletcher_of}
 use Rattle.fingerprint.specs.Examples.{zeros, starts_with_one, starts_with_two_full}
 use Rattle.rules.specs.declared.refusal.Refusal.TheVariants.{NothingToCollect}
 use Rattle.rules.specs.declared.kind.Kind.{Kind}
 use Rattle.rules.specs.declared.kind.Kind.TheVariants.{Stored, Shared, Unchanged}
-use Rattle.rules.specs.declared.answer.Answer.{Answer}
-use Rattle.rules.specs.declared.answer.Answer.TheVariants.{Refused, Wrote, Page, Number, Used}
+use Rattle.rules.specs.declared.answer.Reply.TheVariants.{Wrote, Page, Number, Used}
 use Rattle.rules.specs.State.{State}
 use Rattle.rules.specs.Making.{size_refusal, formatted}
 use Rattle.rules.specs.Image.{image_of, image_length}
+use Rattle.rules.specs.Answers.{Answer}
 use Rattle.rules.specs.Runs.{Call, Step, Life}
 use Rattle.rules.specs.Runs.Call.{write, read, collect, usage}
 
@@ -41,7 +41,7 @@ pub record WorkedSizes : Type 0 where
 
 -- A write accepted with this kind, for which no page was moved.
 abbrev pub wrote_as : Kind → Answer
-wrote_as kind = Wrote (record { kind = kind; moved = 0 })
+wrote_as kind = Ok (Wrote (record { kind = kind; moved = 0 }))
 
 -- The example's calls and what they answer. The page of zeros is Z, H begins 255, 255 and is zeros after, O begins with 1 and
 -- is zeros after; H has Z's fingerprint.
@@ -55,12 +55,12 @@ example_history =
     ∷ (write 0 zeros, wrote_as Unchanged)
     -- O takes the place of H, whose flash page dies.
     ∷ (write 1 starts_with_one, wrote_as Stored)
-    ∷ (usage, Used (record { live = 2; dead = 1; unwritten = 3 }))
+    ∷ (usage, Ok (Used (record { live = 2; dead = 1; unwritten = 3 })))
     -- The block of Z and H is collected: Z is moved. Then no page is dead.
-    ∷ (collect, Number 1)
-    ∷ (collect, Refused NothingToCollect)
+    ∷ (collect, Ok (Number 1))
+    ∷ (collect, Err NothingToCollect)
     -- Host page 2 still reads Z.
-    ∷ (read 2 256, Page zeros)
+    ∷ (read 2 256, Ok (Page zeros))
     ∷ []
 
 -- The rules allow this history: some life, with Fletcher's fingerprint, starts with that device and has it.

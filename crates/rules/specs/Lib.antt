@@ -7,6 +7,7 @@ pub mod Calls
 pub mod Making
 pub mod Stands
 pub mod Image
+pub mod Answers
 pub mod Runs
 pub mod Promise
 pub mod PlainMap

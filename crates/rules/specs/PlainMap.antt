@@ -1,6 +1,6 @@
 -- The layer as a plain page map: a list of pages, each empty or a content, and nothing else.
 use Rattle.std.specs.Prelude.{◌≡◌, true, cond, ◌⊎◌, List, length, is_some, Some, None, Option, ◌==◌, nat_lt, slice_index_or, slice_set}
-use Rattle.rules.specs.declared.answer.Answer.{Answer}
+use Rattle.rules.specs.Answers.{Answer}
 use Rattle.rules.specs.State.{Bytes}
 use Rattle.rules.specs.Runs.{Call}
 use Rattle.rules.specs.Runs.Call.{write, read, trim, collect, scan, usage, save}

@@ -1,11 +1,11 @@
 -- The promise over whole lives, in the words of the subject: pages, calls, answers, and what the flash shows.
-use Rattle.std.specs.Prelude.{◌≡◌, ℕ, ◌+◌, ◌≤◌, Bool, true, false, cond, ◌||◌, List, [], ◌∷◌, length, Some, None, Option, ◌==◌, ◌≢◌}
+use Rattle.std.specs.Prelude.{◌≡◌, ℕ, ◌+◌, ◌≤◌, Bool, true, false, cond, ◌||◌, List, [], ◌∷◌, length, Some, None, Ok, Err, Option, ◌==◌, ◌≢◌}
 use Rattle.flash.specs.Part.{wear}
 use Rattle.page.specs.Same.{same_bytes}
 use Rattle.rules.specs.declared.answer.Usage.{Usage}
-use Rattle.rules.specs.declared.answer.Answer.{Answer}
-use Rattle.rules.specs.declared.answer.Answer.TheVariants.{Refused, Wrote, Page, Number, Used}
+use Rattle.rules.specs.declared.answer.Reply.TheVariants.{Wrote, Page, Number, Used}
 use Rattle.rules.specs.Numbers.{refusal_number, kind_number}
+use Rattle.rules.specs.Answers.{Answer, is_refusal}
 use Rattle.rules.specs.State.{Bytes, State, live_pages, page_map}
 use Rattle.rules.specs.Runs.{Call, Step, Life}
 use Rattle.rules.specs.Runs.Call.{write, read, trim, collect, scan, usage, save}
@@ -19,11 +19,11 @@ pub data Seen : Type 0 where
 
 -- What the host sees of each answer.
 abbrev pub seen : Answer → Seen
-seen (Refused e) = refused (refusal_number e)
-seen (Wrote w) = accepted
-seen (Page x) = bytes x
-seen (Number k) = number k
-seen (Used u) = accepted
+seen (Err e) = refused (refusal_number e)
+seen (Ok (Wrote w)) = accepted
+seen (Ok (Page x)) = bytes x
+seen (Ok (Number k)) = number k
+seen (Ok (Used u)) = accepted
 
 -- Reads, writes and trims are the host's calls.
 abbrev pub is_host : Call → Bool
@@ -51,48 +51,19 @@ SameAnswers (h ∷ hs) (k ∷ ks) =
 
 -- Pages that one call stored: 1 for a write answered with kind 0.
 abbrev pub stored_by : Call → Answer → ℕ
-stored_by (write n x) (Wrote w) = cond (kind_number w.kind == 0) 1 0
-stored_by (write n x) (Refused e) = 0
-stored_by (write n x) (Page y) = 0
-stored_by (write n x) (Number k) = 0
-stored_by (write n x) (Used u) = 0
-stored_by (read n len) a = 0
-stored_by (trim n) a = 0
-stored_by collect a = 0
-stored_by scan a = 0
-stored_by usage a = 0
-stored_by (save len) a = 0
+stored_by (write n x) (Ok (Wrote w)) = cond (kind_number w.kind == 0) 1 0
+stored_by _ _ = 0
 
 -- Pages that one call moved, as an accepted write or collect answers it.
 abbrev pub moved_by : Call → Answer → ℕ
-moved_by (write n x) (Wrote w) = w.moved
-moved_by (write n x) (Refused e) = 0
-moved_by (write n x) (Page y) = 0
-moved_by (write n x) (Number k) = 0
-moved_by (write n x) (Used u) = 0
-moved_by (read n len) a = 0
-moved_by (trim n) a = 0
-moved_by collect (Number k) = k
-moved_by collect (Refused e) = 0
-moved_by collect (Wrote w) = 0
-moved_by collect (Page y) = 0
-moved_by collect (Used u) = 0
-moved_by scan a = 0
-moved_by usage a = 0
-moved_by (save len) a = 0
+moved_by (write n x) (Ok (Wrote w)) = w.moved
+moved_by collect (Ok (Number k)) = k
+moved_by _ _ = 0
 
 -- Pages stored and moved over a history.
 abbrev pub stored_and_moved : List (Call × Answer) → ℕ
 stored_and_moved [] = 0
 stored_and_moved (h ∷ hs) = (stored_by h.0 h.1 + moved_by h.0 h.1) + stored_and_moved hs
-
--- Is an answer a refusal?
-abbrev pub is_refusal : Answer → Bool
-is_refusal (Refused e) = true
-is_refusal (Wrote w) = false
-is_refusal (Page x) = false
-is_refusal (Number k) = false
-is_refusal (Used u) = false
 
 -- Has a scan come with no write or trim accepted since? `so` says it of the calls before: a scan makes it true, an accepted
 -- write or trim false, and any other call leaves it.
@@ -143,7 +114,7 @@ pub record Kept (l : Life) : Type 0 where
   -- They are exactly the different contents if a scan came and no write or trim was accepted since.
   pub exact : settled l.history ≡ true → live_pages l.end ≡ different (contents (page_map l.end))
   -- A usage question asked at the end answers these flash pages in use.
-  pub asked : (a : Answer) (t : State) → Step l.print l.end usage a t → (u : Usage) × (a ≡ Used u) × (u.live ≡ live_pages l.end)
+  pub asked : (a : Answer) (t : State) → Step l.print l.end usage a t → (u : Usage) × (a ≡ Ok (Used u)) × (u.live ≡ live_pages l.end)
 
 -- The promise: it is kept in every life.
 abbrev pub Promise : Type 0

@@ -3,9 +3,9 @@ use Rattle.std.specs.Prelude.{◌≡◌, ℕ, ◌<◌, ◌≤◌, List, [], ◌�
 use Rattle.rules.specs.declared.refusal.Refusal.{Refusal}
 use Rattle.rules.specs.declared.answer.Written.{Written}
 use Rattle.rules.specs.declared.answer.Usage.{Usage}
-use Rattle.rules.specs.declared.answer.Answer.{Answer}
-use Rattle.rules.specs.declared.answer.Answer.TheVariants.{Refused, Wrote, Page, Number, Used}
+use Rattle.rules.specs.declared.answer.Reply.TheVariants.{Wrote, Page, Number, Used}
 use Rattle.rules.specs.Numbers.{refusal_number}
+use Rattle.rules.specs.Answers.{Answer, answer_of}
 use Rattle.rules.specs.State.{Bytes, State, block_count, per_block, host_pages}
 use Rattle.rules.specs.Calls.{Writes, Reads, Trims, Collects, Scans, Asks}
 use Rattle.rules.specs.Image.{image_length}
@@ -28,11 +28,6 @@ Saves s len (Ok size) t =
     (t ≡ s) × (size ≡ image_length (block_count s) (per_block s) (host_pages s)) × (size ≤ len)
 Saves s len (Err e) t =
     (t ≡ s) × (refusal_number e ≡ 8) × (len < image_length (block_count s) (per_block s) (host_pages s))
-
--- The answer as a record of a run has it.
-abbrev pub answer_of : {X : Type 0} → (X → Answer) → Result X Refusal → Answer
-answer_of shown (Ok x) = shown x
-answer_of shown (Err e) = Refused e
 
 -- One call: in state s it may answer a and leave state t.
 abbrev pub Step : (Bytes → ℕ) → State → Call → Answer → State → Type 0

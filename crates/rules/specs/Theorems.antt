@@ -1,13 +1,13 @@
 -- Theorems that show that the rules say what they should.
 use Rattle.std.specs.Prelude.{◌≡◌, ℕ, ◌<◌, true, false}
-use Rattle.rules.specs.declared.answer.Answer.{Answer}
 use Rattle.rules.specs.State.{Bytes, State, flash_pages, in_use, clean_blocks, page_map}
 use Rattle.rules.specs.Tables.{EntryFor}
 use Rattle.rules.specs.Calls.{HasPartWritten, Collectable, Victim, Collected, Ready}
 use Rattle.rules.specs.Making.{Made}
 use Rattle.rules.specs.Stands.{Stands}
+use Rattle.rules.specs.Answers.{Answer, is_refusal}
 use Rattle.rules.specs.Runs.{Call, Step}
-use Rattle.rules.specs.Promise.{is_host, is_refusal}
+use Rattle.rules.specs.Promise.{is_host}
 use Rattle.rules.specs.PlainMap.{Plain}
 
 -- A device that was made stands, and every call leaves it standing.

@@ -17,9 +17,9 @@ pub struct Usage {
     pub unwritten: u32,
 }
 
+// What a call replies that is not refused.
 #[derive(Clone, Copy, PartialEq, Eq, Debug)]
-pub enum Answer {
-    Refused(Refusal),
+pub enum Reply {
     Wrote(Written),
     // The page that was read.
     Page([u8; 256]),
@@ -27,3 +27,6 @@ pub enum Answer {
     Number(u32),
     Used(Usage),
 }
+
+// A reply, or why the call is refused.
+pub type Answer = Result<Reply, Refusal>;

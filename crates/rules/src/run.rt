@@ -1,7 +1,8 @@
 // The calls of a run and what a device answers to them, as a record of a run has them.
 ghost use Rattle.std.specs.Prelude.{◌≡◌};
 ghost use Rattle.rules.specs.Recorded.{call_of};
-ghost use Rattle.rules.specs.Promise.{is_host, is_refusal};
+ghost use Rattle.rules.specs.Promise.{is_host};
+ghost use Rattle.rules.specs.Answers.{is_refusal};
 
 use crate::answer::Answer;
 use crate::call::Call;
@@ -15,16 +16,9 @@ impl Call {
     }
 }
 
-impl Answer {
-    pub fn is_refusal(&self) -> bool
-        ensures value { result ≡ is_refusal self.now }
-    {
-        match self {
-            Answer::Refused(_) => true,
-            Answer::Wrote(_) => false,
-            Answer::Page(_) => false,
-            Answer::Number(_) => false,
-            Answer::Used(_) => false,
-        }
-    }
+// Is an answer a refusal?
+pub fn is_refusal(answer: &Answer) -> bool
+    ensures value { result ≡ is_refusal answer.now }
+{
+    answer.is_err()
 }
