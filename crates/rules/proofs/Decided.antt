@@ -17,7 +17,7 @@ use Rattle.rules.specs.Runs.{Saves}
 use Rattle.rules.specs.Runs.Call.{write, read, trim, collect, scan, usage, save}
 use Rattle.rules.specs.Promise.{contents, different}
 use Rattle.rules.specs.Theorems.{AnswersDecided}
-use Rattle.rules.proofs.Cases.{some_same, none_some}
+use Rattle.rules.proofs.Cases.{some_same}
 use Rattle.rules.proofs.Moving.{mid}
 use Rattle.rules.proofs.Scanning.{merges_scanned}
 use Rattle.rules.proofs.Counting.{pages_exact}
