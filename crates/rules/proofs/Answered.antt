@@ -37,8 +37,8 @@ same_content (Some x) (Some y) = same_bytes x y
 
 content_same : (o p : Option Bytes) → same_content o p ≡ true → o ≡ p
 content_same None None t = refl
-content_same None (Some y) t = absurd (both_ways false refl t)
-content_same (Some x) None t = absurd (both_ways false refl t)
+content_same None (Some y) t = cc
+content_same (Some x) None t = cc
 content_same (Some x) (Some y) t = ap Some (equal_from_same x y t)
 
 content_self : (o : Option Bytes) → same_content o o ≡ true
@@ -64,7 +64,7 @@ offers_or print s x h =
 
     found : (o : Option Entry) → offer o ≡ true
         → (q : ℕ) × (o ≡ Some (record { print = print x; page = q })) × (content s.part q ≡ Some x)
-    found None t = absurd (both_ways false refl t)
+    found None t = cc
     found (Some e) t =
         let r = and_parts (eqb e.print (print x)) (same_content (content s.part e.page) (Some x)) t in (
           e.page,

@@ -204,7 +204,7 @@ entered_some hot store new heat =
 
     free_is : (o : Option Entry) → not (is_some o) ≡ true → o ≡ None
     free_is None t = refl
-    free_is (Some e) t = absurd (both_ways false refl t)
+    free_is (Some e) t = cc
 
     start : ℕ
     start = new.print % 16 * 16 + 0
@@ -216,7 +216,7 @@ entered_some hot store new heat =
     start_in = eq-eqb _ _ (div-mul-add (new.print % 16) 16 0 (omega arith))
 
     held_by : (o : Option Entry) → not (is_some o) ≡ false → (e : Entry) × (o ≡ Some e)
-    held_by None t = absurd (both_ways true t refl)
+    held_by None t = cc
     held_by (Some e) t = (e, refl)
 
     all_full : ((k : ℕ) → k < 256 → free k ≡ false) → Full store new.print

@@ -3,7 +3,7 @@ use Rattle.std.proofs.Common.{◌≡◌, ℕ, ◌+◌, ◌*◌, ◌/◌, ◌%◌
 use Rattle.std.specs.List.{slice_get}
 use Rattle.std.proofs.lemmas.Option.{slice_get-get_or, slice_get_past}
 use Rattle.std.proofs.lemmas.List.{length_push, get_or_append_left, get_or_push, get_or_past}
-use Rattle.std.proofs.lemmas.Bool.{cases_eq, cases_lt, lt-ltb, le-ltb, ltb-true}
+use Rattle.std.proofs.lemmas.Bool.{both_ways, cases_eq, cases_lt, lt-ltb, le-ltb, ltb-true}
 use Rattle.std.proofs.lemmas.Nat.{div-mul-add, mod-mul-add, mod_below, mul-add-lt}
 use Rattle.flash.specs.Part.{Block, Part, Sound, no_block, block, written, appended, erased}
 use Rattle.flash.proofs.Keeps.{block_put, block_other}
@@ -93,10 +93,7 @@ module _ (p : Part) (some : 0 < p.per_block) where
 
     -- What was written has the content it had.
     pub content_stays : (q : ℕ) → is_written p q ≡ true → content (appended p b x) q ≡ content p q
-    content_stays q w = content_old q (λ e. absurd_of (sym w ∙ ap (is_written p) e ∙ new_unwritten))
-      where
-        absurd_of : true ≡ false → ⊥
-        absurd_of e = let z : ◌≡◌ {A = ℕ} 0 1 = cc in omega arith
+    content_stays q w = content_old q (λ e. both_ways _ new_unwritten (ap (is_written p) (sym e) ∙ w))
 
   -- After an erase of block b every page of another block is as it was.
   pub content_erased : (b q : ℕ) → (q / p.per_block ≡ b → ⊥) → content (erased p b) q ≡ content p q

@@ -23,7 +23,7 @@ stands_in_from q (x ∷ xs) (inl e) = or_left (eqb q x) (stands_in q xs) (eq-eqb
 stands_in_from q (x ∷ xs) (inr i) = or_right (eqb q x) (stands_in q xs) (stands_in_from q xs i)
 
 pub stands_in_find : (q : ℕ) (xs : List ℕ) → stands_in q xs ≡ true → In q xs
-stands_in_find q [] t = absurd (both_ways false refl t)
+stands_in_find q [] t = cc
 stands_in_find q (x ∷ xs) t =
     ⊎_elim (λ e. inl (eqb-true q x e)) (λ i. inr (stands_in_find q xs i)) (or_cases (eqb q x) (stands_in q xs) t)
 
@@ -69,7 +69,7 @@ occurs_from g q (x ∷ xs) (inl e) = or_left (same_bytes (g q) (g x)) (occurs (g
 occurs_from g q (x ∷ xs) (inr i) = or_right (same_bytes (g q) (g x)) (occurs (g q) (map g xs)) (occurs_from g q xs i)
 
 pub occurs_find : (g : ℕ → Bytes) (y : Bytes) (xs : List ℕ) → occurs y (map g xs) ≡ true → (q : ℕ) × In q xs × (y ≡ g q)
-occurs_find g y [] t = absurd (both_ways false refl t)
+occurs_find g y [] t = cc
 occurs_find g y (x ∷ xs) t =
     ⊎_elim (λ e. (x, inl refl, equal_from_same y (g x) e))
     (λ i. let r = occurs_find g y xs i in (r.0, inr r.1, r.2)) (or_cases (same_bytes y (g x)) (occurs y (map g xs)) t)

@@ -26,7 +26,7 @@ answers_as_page_map print s c a t h step = (step_outcome print s c a t h step).p
 -- An answer that is a refusal comes of a refused result.
 refused_result : {X : Type 0} (reply : X → Reply) (r : Result X Refusal) (a : Answer) (T : Result X Refusal → Type 0)
     → a ≡ answer_of reply r → is_refusal a ≡ true → T r → (e : Refusal) × T (Err e)
-refused_result reply (Ok x) a T is bad rule = absurd (both_ways false refl (ap is_refusal (sym is) ∙ bad))
+refused_result reply (Ok x) a T is bad rule = cc
 refused_result reply (Err e) a T is bad rule = (e, rule)
 
 unchanged : (print : Bytes → ℕ) (s : State) (c : Call) (a : Answer) (t : State) → Step print s c a t → is_refusal a ≡ true → t ≡ s

@@ -15,10 +15,10 @@ use Rattle.rules.proofs.Live.{live_from, live_find}
 
 -- What is left of a store when a page dies.
 pub without_some : (q : ℕ) (o : Option Entry) (e : Entry) → without q o ≡ Some e → (o ≡ Some e) × (e.page ≡ q → ⊥)
-without_some q None e is = absurd (let z : ◌≡◌ {A = ℕ} 0 1 = cc in omega arith)
+without_some q None e is = cc
 without_some q (Some d) e is =
     ⊎_elim
-    (λ h. absurd (let r = cond-true (eqb d.page q) None (Some d) (eq-eqb d.page q h) in let z : ◌≡◌ {A = ℕ} 0 1 = cc in omega arith))
+    (λ h. let r = cond-true (eqb d.page q) None (Some d) (eq-eqb d.page q h) in cc)
     (λ h. let r = cond-false (eqb d.page q) None (Some d) (ne_eqb d.page q h) in
     let same : d ≡ e = cc in (ap Some same, λ p. h (ap (λ (y : Entry). y.page) same ∙ p)))
     (cases_eq d.page q)

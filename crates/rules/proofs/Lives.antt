@@ -39,9 +39,9 @@ run_keeps print s (k ∷ hs) t h (m, step, rest) =
 
 -- A call that is not the host's leaves the page map.
 pub other_call : (c : Call) (a : Answer) (m after : List (Option Bytes)) → is_host c ≡ false → Plain m c a after → after ≡ m
-other_call (write n x) a m after off p = absurd (both_ways true off refl)
-other_call (read n len) a m after off p = absurd (both_ways true off refl)
-other_call (trim n) a m after off p = absurd (both_ways true off refl)
+other_call (write n x) a m after off p = cc
+other_call (read n len) a m after off p = cc
+other_call (trim n) a m after off p = cc
 other_call collect a m after off p = ⊎_elim (λ q. q.1) (λ q. q.1) p
 other_call scan a m after off p = ⊎_elim (λ q. q.1) (λ q. q.1) p
 other_call usage a m after off p = ⊎_elim (λ q. q.1) (λ q. q.1) p
@@ -115,6 +115,6 @@ promise l =
       worn = r.worn;
       enough = pages_enough l.print l.end m;
       few = pages_few l.print l.end m;
-      exact = λ now. r.exact false (λ never. absurd (both_ways false refl never)) now;
+      exact = λ now. r.exact false (λ never. cc) now;
       asked = λ a t step. usage_asked l.end step.0 a t step.1 step.2;
     }

@@ -168,7 +168,7 @@ module _ (print : Bytes → ℕ) (s : State) (q b : ℕ) (h : Mid print s) (take
     where
       by : (o : Option Entry) → entry_at s.store k ≡ o → renamed_entry q new o ≡ Some e
           → (d : Entry) × (entry_at s.store k ≡ Some d) × (e.print ≡ d.print) × (e.page ≡ renamed q new d.page)
-      by None o_is gives = absurd (let z : ◌≡◌ {A = ℕ} 0 1 = cc in omega arith)
+      by None o_is gives = cc
       by (Some d) o_is gives =
           let same : e ≡ record { print = d.print; page = renamed q new d.page } = cc in
           (d, o_is, ap (λ (y : Entry). y.print) same, ap (λ (y : Entry). y.page) same)

@@ -154,7 +154,7 @@ others_print print s y f only ne r (k, is, r_has) = ne (only k _ is)
 
 -- Empty is no content, and one content is not another.
 none_there : (x : Bytes) → None ≡ Some x → ⊥
-none_there x e = let z : ◌≡◌ {A = ℕ} 0 1 = cc in omega arith
+none_there x e = cc
 
 other_there : (x y : Bytes) → (x ≡ y → ⊥) → Some x ≡ Some y → ⊥
 other_there x y ne e = ne (cc)
@@ -256,7 +256,7 @@ module _ (print : Bytes → ℕ) (Z H O : Bytes) (z_long : length Z ≡ 256) (h_
   first_victim = (
     ((lit< tt, refl, lit< tt), lit< tt),
     λ b c. below_three (λ i. is_closed (after_o print Z H O) i ≡ true → 1 ≤ live_in (after_o print Z H O) i)
-        (λ t. lit≤ tt) (λ t. lit≤ tt) (λ t. absurd (both_ways false refl t)) b c.0.0 c.0.1,
+        (λ t. lit≤ tt) (λ t. lit≤ tt) (λ t. cc) b c.0.0 c.0.1,
   )
 
   z_moved : Step print (after_o print Z H O) collect (Ok (Number 1)) (after_collect print Z O)
@@ -274,7 +274,7 @@ module _ (print : Bytes → ℕ) (Z H O : Bytes) (z_long : length Z ≡ 256) (h_
         refl,
         λ b c. below_three
             (λ i. is_closed (after_collect print Z O) i ≡ true → 0 < dead_in (after_collect print Z O) i → ⊥)
-            (λ t d. both_ways false refl t) (λ t d. omega arith) (λ t d. both_ways false refl t) b c.0 c.1 c.2,
+            (λ t d. cc) (λ t d. omega arith) (λ t d. cc) b c.0 c.1 c.2,
       ),
     ),
   )
