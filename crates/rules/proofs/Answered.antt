@@ -20,7 +20,6 @@ use Rattle.rules.specs.Answers.{answer_of}
 use Rattle.rules.specs.Runs.{Saves}
 use Rattle.rules.specs.Runs.Call.{write, read, trim, collect, scan, usage, save}
 use Rattle.rules.specs.Theorems.{EveryCallAnswered}
-use Rattle.rules.proofs.Cases.{none_some}
 use Rattle.rules.proofs.Tally.{tally_find, tally_pos}
 use Rattle.rules.proofs.Moving.{Mid, mid}
 use Rattle.rules.proofs.Scanning.{merged_mid, merged_pages}
@@ -75,7 +74,7 @@ offers_or print s x h =
     place : {q : ℕ} → (o : Offers print s x q) → o.0 < 256
     place {q} o =
         ⊎_elim (λ l. l)
-        (λ past. absurd (none_some (entry_at s.store o.0) _ (get_or_past s.store o.0 None (omega (arith, past, h.stores.places))) o.1))
+        (λ past. cc (get_or_past s.store o.0 None (omega (arith, past, h.stores.places)), o.1))
         (cases_lt o.0 256)
 
 -- In a ready state a page can be stored.

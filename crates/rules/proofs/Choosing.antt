@@ -1,7 +1,7 @@
 -- Where the rules leave a choice, there is something to choose.
 use Rattle.std.proofs.Common.{◌≡◌, ℕ, zero, suc, ◌+◌, ◌*◌, ◌/◌, ◌%◌, ◌<◌, ◌≤◌, Bool, true, false, not, ◌&&◌, eqb, ltb, ◌⊎◌, List, [], ◌∷◌, length, set, is_some, Some, None, Option, sym, refl, ap, ◌∙◌, subst, inl, inr, ⊎_elim, arith}
 use Rattle.std.proofs.lemmas.List.{length-set}
-use Rattle.std.proofs.lemmas.Bool.{cases_Bool, cases_lt, cases_eq, both_ways, eq-eqb, eqb-true, lt-ltb, ltb-true, and_parts, and_from}
+use Rattle.std.proofs.lemmas.Bool.{false_from_ne_true, cases_Bool, cases_lt, cases_eq, both_ways, eq-eqb, eqb-true, lt-ltb, ltb-true, and_parts, and_from}
 use Rattle.std.proofs.lemmas.Nat.{div-mul-add, mod_below}
 use Rattle.flash.specs.Part.{written, erases}
 use Rattle.rules.specs.State.{Bytes, Entry, State, block_count, per_block, is_clean, is_closed, is_part_written, in_use_at, live_in}
@@ -222,7 +222,6 @@ entered_some hot store new heat =
     all_full : ((k : ℕ) → k < 256 → free k ≡ false) → Full store new.print
     all_full none k seg =
         held_by (entry_at store k)
-        (⊎_elim
-        (λ t. absurd (both_ways (free k) (none k seg.0)
+        (false_from_ne_true (not (is_some (entry_at store k)))
+        (λ t. both_ways (free k) (none k seg.0)
         (and_from (eqb (k / 16) (new.print % 16)) (not (is_some (entry_at store k))) (eq-eqb (k / 16) (new.print % 16) seg.1) t)))
-        (λ t. t) (cases_Bool (not (is_some (entry_at store k)))))

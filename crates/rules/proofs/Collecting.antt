@@ -1,7 +1,7 @@
 -- A collection keeps what stands, what the host pages hold, and how many flash pages are in use.
 use Rattle.std.proofs.Common.{◌≡◌, ℕ, ◌+◌, ◌*◌, ◌/◌, ◌%◌, ◌<◌, ◌≤◌, Bool, true, false, cond, eqb, ◌⊎◌, List, [], ◌∷◌, length, sym, refl, ap, ◌∙◌, subst, inl, inr, ⊎_elim, mul_comm, div-add-mod', arith}
 use Rattle.std.proofs.lemmas.List.{length-set}
-use Rattle.std.proofs.lemmas.Bool.{cases_eq, cases_lt, cases_Bool, both_ways, eq-eqb, ne_eqb}
+use Rattle.std.proofs.lemmas.Bool.{cases_eq, cases_lt, false_from_ne_true, both_ways, eq-eqb, ne_eqb}
 use Rattle.std.proofs.lemmas.Nat.{div-mul-add, mod_below, mul-add-lt, le-div}
 use Rattle.flash.specs.Part.{Block, written, erases, wear}
 use Rattle.flash.proofs.Keeps.{sound_erased, block_other}
@@ -11,7 +11,7 @@ use Rattle.rules.specs.Tables.{next_page, moved_to, erased_block}
 use Rattle.rules.specs.Store.{Offers}
 use Rattle.rules.specs.Calls.{Takes, Candidate, Victim, below, Moves, Collected}
 use Rattle.rules.specs.Stands.{StoreStands, Stands}
-use Rattle.rules.proofs.Cases.{same_test}
+use Rattle.std.specs.Cmp.{both_ways as same_test}
 use Rattle.rules.proofs.Tally.{tally_at, one_true, one_false}
 use Rattle.rules.proofs.Namers.{renamed_cases, written_agrees}
 use Rattle.rules.proofs.Crossing.{name_past}
@@ -44,10 +44,9 @@ module _ (print : Bytes → ℕ) (s : State) (q b : ℕ) (h : Mid print s) (take
 
   old_dead : in_use t q ≡ false
   old_dead =
-      ⊎_elim
+      false_from_ne_true (in_use t q)
       (λ is. let y = moved_live_back print s q b h takes w q is in
-      absurd (⊎_elim (λ c. new_ne (sym c.1 ∙ y.2)) (λ c. c.0 (sym c.1 ∙ y.2)) (renamed_cases q new y.0)))
-      (λ is. is) (cases_Bool (in_use t q))
+      ⊎_elim (λ c. new_ne (sym c.1 ∙ y.2)) (λ c. c.0 (sym c.1 ∙ y.2)) (renamed_cases q new y.0))
 
   other_same : (r : ℕ) → (r ≡ q → ⊥) → (r ≡ new → ⊥) → in_use s r ≡ in_use t r
   other_same r ne ne' =

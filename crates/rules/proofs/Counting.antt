@@ -10,7 +10,7 @@ use Rattle.rules.proofs.Tally.{tally_same}
 use Rattle.rules.proofs.Members.{In}
 use Rattle.rules.proofs.Content.{content_written, written_inside}
 use Rattle.rules.proofs.Live.{live_from, live_find, live_written, reach_named}
-use Rattle.rules.proofs.Cases.{same_test}
+use Rattle.std.specs.Cmp.{both_ways as same_test}
 use Rattle.rules.proofs.Moving.{Mid, sizes, hosts, some_pages}
 use Rattle.rules.proofs.Storing.{content_none}
 use Rattle.rules.proofs.Distinct.{stands_in, distinct, stands_in_from, stands_in_find, distinct_le, tally_distinct, different_le, different_all}

@@ -1,6 +1,7 @@
 -- What the namers hold after a change of the list of words or of the list of entries.
 use Rattle.std.proofs.Common.{◌≡◌, ℕ, ◌-◌, ◌<◌, ◌≤◌, cond, ltb, List, map, length, get_or, set, sym, ap, ◌∙◌, subst, ⊎_elim, arith}
-use Rattle.std.proofs.lemmas.List.{get_or-set_same, get_or-set_other, get_or-map, get_or_past, length-map}
+use Rattle.std.proofs.lemmas.List.{get_or-set_same, get_or-set_other, get_or_past}
+use Rattle.std.proofs.Math.ListN.{get_or-map}
 use Rattle.std.proofs.lemmas.Bool.{cases_eq, cases_lt, lt-ltb, le-ltb}
 use Rattle.rules.specs.State.{no_page, name}
 use Rattle.rules.proofs.Namers.{put, put_same, put_other}
@@ -45,9 +46,7 @@ name_set_entry words shared x v big l k =
 -- A list mapped by a function that keeps "none".
 pub get_d_mapped : (g : ℕ → ℕ) (xs : List ℕ) (k : ℕ) → g no_page ≡ no_page → get_or (map g xs) k no_page ≡ g (get_or xs k no_page)
 get_d_mapped g xs k keeps =
-    ⊎_elim (λ l. get_or-map g xs k no_page no_page l)
-    (λ h. get_or_past (map g xs) k no_page (omega (arith, length-map xs g)) ∙ sym keeps ∙ ap g (sym (get_or_past xs k no_page h)))
-    (cases_lt k (length xs))
+    ap (get_or (map g xs) k) (sym keeps) ∙ get_or-map g xs k no_page
 
 pub name_mapped : (g h : ℕ → ℕ) (words shared : List ℕ) → g no_page ≡ no_page → h no_page ≡ no_page
     → (k : ℕ) → name (map g words) (map h shared) k ≡ cond (ltb k 4096) (g (name words shared k)) (h (name words shared k))

@@ -17,7 +17,6 @@ use Rattle.rules.specs.Runs.{Saves}
 use Rattle.rules.specs.Runs.Call.{write, read, trim, collect, scan, usage, save}
 use Rattle.rules.specs.Promise.{contents, different}
 use Rattle.rules.specs.Theorems.{AnswersDecided}
-use Rattle.rules.proofs.Cases.{some_same}
 use Rattle.rules.proofs.Moving.{mid}
 use Rattle.rules.proofs.Scanning.{merges_scanned}
 use Rattle.rules.proofs.Counting.{pages_exact}
@@ -127,7 +126,7 @@ one_write print s n x = record {
 
 one_read : (s : State) (n len : ℕ) → One (Reads s n len)
 one_read s n len = record {
-  values = λ x y t u p p'. some_same (held s n) x y p.3 p'.3;
+  values = λ x y t u p p'. cc (p.3, p'.3);
   not_both = λ x e t u p p'. grind (arith, p, p'.1);
   numbers = λ d e t u p p'. grind (arith, p.1, p'.1);
 }

@@ -1,13 +1,13 @@
 -- How many different numbers a list has, and how many different contents they lead to.
 use Rattle.std.proofs.Common.{◌≡◌, ℕ, ◌+◌, ◌<◌, ◌≤◌, Bool, true, false, cond, ◌||◌, eqb, List, [], ◌∷◌, map, length, sym, refl, ap, ◌∙◌, subst, inl, inr, ⊎_elim, arith}
-use Rattle.std.proofs.lemmas.Bool.{cases_Bool, both_ways, eq-eqb, ne_eqb, eqb-true, or_cases, or_left, or_right, cond-true, cond-false}
+use Rattle.std.proofs.lemmas.Bool.{false_from_ne_true, cases_Bool, both_ways, eq-eqb, ne_eqb, eqb-true, or_cases, or_left, or_right, cond-true, cond-false}
 use Rattle.page.specs.Same.{same_bytes}
 use Rattle.page.proofs.Same.{same_from_equal, equal_from_same}
 use Rattle.rules.specs.State.{Bytes, tally}
 use Rattle.rules.specs.Promise.{occurs, different}
 use Rattle.rules.proofs.Tally.{tally_at, tally_same, tally_none, one_true, one_false}
 use Rattle.rules.proofs.Members.{In}
-use Rattle.rules.proofs.Cases.{same_test}
+use Rattle.std.specs.Cmp.{both_ways as same_test}
 
 abbrev pub stands_in : ℕ → List ℕ → Bool
 stands_in q [] = false
@@ -109,8 +109,7 @@ different_all g (x ∷ xs) one =
     ⊎_elim
     (λ t. cond-true (occurs (g x) (map g xs)) _ _ (occurs_from g x xs (stands_in_find x xs t)) ∙ rest ∙ sym (distinct_again x xs t))
     (λ t. cond-false (occurs (g x) (map g xs)) _ _
-    (⊎_elim (λ o. let r = occurs_find g (g x) xs o in
-    absurd (both_ways (stands_in x xs) t (stands_in_from x xs (subst (λ i. In i xs) (sym (one x r.0 (inl refl) (inr r.1) r.2)) r.1))))
-    (λ o. o) (cases_Bool (occurs (g x) (map g xs))))
+    (false_from_ne_true (occurs (g x) (map g xs)) (λ o. let r = occurs_find g (g x) xs o in
+    both_ways (stands_in x xs) t (stands_in_from x xs (subst (λ i. In i xs) (sym (one x r.0 (inl refl) (inr r.1) r.2)) r.1))))
     ∙ ap (λ c. c + 1) rest ∙ sym (distinct_new x xs t))
     (cases_Bool (stands_in x xs))

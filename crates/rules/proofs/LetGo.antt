@@ -1,7 +1,8 @@
 -- A host page's word takes another value, and the reference that it was is let go.
-use Rattle.std.proofs.Common.{◌≡◌, ℕ, ◌-◌, ◌<◌, ◌≤◌, true, cond, eqb, ltb, ◌⊎◌, List, map, length, Some, None, Option, sym, refl, ap, ◌∙◌, subst, inl, inr, ⊎_elim, arith}
+use Rattle.std.proofs.Common.{◌≡◌, ℕ, ◌-◌, ◌<◌, ◌≤◌, true, cond, eqb, ltb, ◌⊎◌, List, map, length, get_or, Some, None, Option, sym, refl, ap, ◌∙◌, subst, inl, inr, ⊎_elim, arith}
 use mathlib.Core.Path.{fun_ext}
-use Rattle.std.proofs.lemmas.List.{length-set, length-map, get_or_past, get_or-map}
+use Rattle.std.proofs.lemmas.List.{length-set, length-map, get_or_past}
+use Rattle.std.proofs.Math.ListN.{get_or-map}
 use Rattle.std.proofs.lemmas.Bool.{cases_eq, cases_lt, cases_Bool, eq-eqb, ne_eqb, eqb-true, lt-ltb, le-ltb, ltb-true, cond-true, cond-false, both_ways}
 use Rattle.rules.specs.State.{Entry, State, no_page, host_pages, names, leads, reach, in_use, is_written}
 use Rattle.rules.specs.Tables.{without, dies, with_word, with_shared, is_held, let_go, repoint}
@@ -26,9 +27,7 @@ without_some q (Some d) e is =
 pub entry_mapped : (g : Option Entry → Option Entry) (store : List (Option Entry)) (k : ℕ) → g None ≡ None
     → entry_at (map g store) k ≡ g (entry_at store k)
 entry_mapped g store k keeps =
-    ⊎_elim (λ l. get_or-map g store k None None l)
-    (λ h. get_or_past (map g store) k None (omega (arith, length-map store g)) ∙ sym keeps ∙ ap g (sym (get_or_past store k None h)))
-    (cases_lt k (length store))
+    ap (get_or (map g store) k) (sym keeps) ∙ get_or-map g store k None
 
 pub entry_left : (q : ℕ) (store : List (Option Entry)) (k : ℕ) (e : Entry) → entry_at (map (without q) store) k ≡ Some e
     → (entry_at store k ≡ Some e) × (e.page ≡ q → ⊥)

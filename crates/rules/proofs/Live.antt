@@ -1,6 +1,6 @@
 -- Which flash pages are in use.
 use Rattle.std.proofs.Common.{◌≡◌, ℕ, ◌<◌, ◌≤◌, true, false, eqb, ltb, ◌⊎◌, sym, ap, ◌∙◌, subst, inl, inr, ⊎_elim, arith}
-use Rattle.std.proofs.lemmas.Bool.{cases_eq, cases_Bool, eq-eqb, eqb-true, lt-ltb, ltb-true}
+use Rattle.std.proofs.lemmas.Bool.{cases_eq, false_from_ne_true, eq-eqb, eqb-true, lt-ltb, ltb-true}
 use Rattle.rules.specs.State.{State, no_page, tally, host_pages, names, leads, reach, references, in_use, is_written}
 use Rattle.rules.specs.Making.{Agrees}
 use Rattle.rules.proofs.Tally.{tally_find, tally_pos, tally_same}
@@ -18,7 +18,7 @@ live_find s q live =
 
 pub live_not : (s : State) (q : ℕ) → ((n : ℕ) → n < host_pages s → reach s n ≡ q → ⊥) → in_use s q ≡ false
 live_not s q none =
-    ⊎_elim (λ live. let r = live_find s q live in absurd (none r.0 r.1 r.2)) (λ dead. dead) (cases_Bool (in_use s q))
+    false_from_ne_true (in_use s q) (λ live. let r = live_find s q live in none r.0 r.1 r.2)
 
 -- Two states with as many host pages have the same pages in use if their words reach the same.
 pub live_same : (s t : State) → host_pages t ≡ host_pages s → ((n : ℕ) → n < host_pages s → reach t n ≡ reach s n)

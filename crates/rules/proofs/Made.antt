@@ -1,6 +1,7 @@
 -- A device that was made stands.
-use Rattle.std.proofs.Common.{◌≡◌, ℕ, ◌+◌, ◌-◌, ◌*◌, ◌/◌, ◌<◌, true, eqb, List, [], ◌∷◌, map, length, get_or, replicate, Some, None, Option, sym, refl, ap, ◌∙◌, subst, inl, inr, ⊎_elim, arith}
-use Rattle.std.proofs.lemmas.List.{length-map, length-replicate, get_or-replicate, get_or_past, get_or-map}
+use Rattle.std.proofs.Common.{◌≡◌, ℕ, ◌+◌, ◌-◌, ◌*◌, ◌/◌, ◌<◌, true, eqb, List, [], ◌∷◌, length, get_or, replicate, Some, None, Option, sym, refl, ap, ◌∙◌, subst, inl, inr, ⊎_elim, arith}
+use Rattle.std.proofs.lemmas.List.{length-map, length-replicate, get_or-replicate, get_or_past}
+use Rattle.std.proofs.Math.ListN.{get_or-map}
 use Rattle.std.proofs.lemmas.Bool.{cases_eq, cases_lt, eq-eqb, ne_eqb, cond-true, cond-false}
 use Rattle.flash.specs.Part.{Block, Part, SoundBlock, Sound, no_block, written, erases}
 use Rattle.rules.specs.State.{Bytes, Entry, State, no_page, block_count, per_block, flash_pages, host_pages, names, content, in_use, hotness}
@@ -12,7 +13,7 @@ use Rattle.rules.specs.Stands.{EntryStands, Stands}
 use Rattle.rules.proofs.Sizes.{sizes_fit}
 use Rattle.rules.proofs.Blocks.{part_written_in}
 use Rattle.rules.proofs.Crossing.{name_word, name_entry}
-use Rattle.rules.proofs.Cases.{some_same, none_some}
+use Rattle.std.proofs.lemmas.Option.{same_Some}
 use Rattle.rules.proofs.Members.{In, in_below}
 use Rattle.rules.proofs.Entering.{entered_cases, entered_length, entered_entry, entered_apart}
 
@@ -23,7 +24,7 @@ get_d_all n k x =
 
 -- An empty store has only free places.
 pub empty_store : (n k : ℕ) (e : Entry) → entry_at (replicate n None) k ≡ Some e → ⊥
-empty_store n k e is = none_some (entry_at (replicate n None) k) e (get_d_all n k None) is
+empty_store n k e is = cc (get_d_all {X = Option Entry} n k None, is)
 
 module _ (print : Bytes → ℕ) (p : Part) (host : ℕ) (sound : Sound p) (accepts : FormatAccepts p host) where
   abbrev s : State
@@ -41,15 +42,12 @@ module _ (print : Bytes → ℕ) (p : Part) (host : ℕ) (sound : Sound p) (acce
       (λ h. name_entry s.words s.shared k h ∙ get_d_all (length p.blocks * p.per_block) (k - 4096) no_page) (cases_lt k 4096)
 
   all_clean : (b : ℕ) → written s.part b ≡ 0
-  all_clean b =
-      ⊎_elim (λ l. ap (λ (y : Block). length y.pages) (get_or-map cleared p.blocks b no_block no_block l))
-      (λ h. ap (λ (y : Block). length y.pages) (get_or_past (map cleared p.blocks) b no_block (omega (arith, blocks_same))))
-      (cases_lt b (length p.blocks))
+  all_clean b = ap (λ (y : Block). length y.pages) (get_or-map cleared p.blocks b no_block)
 
   sound_after : Sound s.part
   sound_after = record {
     each = λ b l. let in_p : b < length p.blocks = omega (arith, blocks_same) in
-        subst (SoundBlock p.per_block p.endurance) (sym (get_or-map cleared p.blocks b no_block no_block in_p))
+        subst (SoundBlock p.per_block p.endurance) (sym (get_or-map cleared p.blocks b no_block))
         (record {
           room = omega arith;
           worn_at_most = ⊎_elim
@@ -116,7 +114,7 @@ refilled_one print s q x store next inside live has f none entered = record {
         segment = ap (λ i. i / 16) new.0 ∙ p.1.1;
         inside = inside;
         live = live;
-        right = λ y y_has. ap print (some_same (Some x) x y refl (sym has ∙ y_has));
+        right = λ y y_has. ap print (same_Some x y (sym has ∙ y_has));
       }))
       (λ old. f.each k e old.1)
       (entered_entry store next (record { print = print x; page = q }) p.0 (omega (arith, p.1.0, f.places)) p.2 k e is))

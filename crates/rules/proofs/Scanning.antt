@@ -13,7 +13,7 @@ use Rattle.rules.proofs.Reaches.{goes_merged}
 use Rattle.rules.proofs.Crossing.{name_mapped}
 use Rattle.rules.proofs.Live.{live_from, live_find, live_not}
 use Rattle.rules.proofs.LetGo.{entry_left}
-use Rattle.rules.proofs.Cases.{same_test}
+use Rattle.std.specs.Cmp.{both_ways as same_test}
 use Rattle.rules.proofs.Moving.{Mid, sizes, hosts, fits_same}
 use Rattle.rules.proofs.Sharing.{lifted_mid, lifted_entry, lifted_reach, lifted_hosts}
 

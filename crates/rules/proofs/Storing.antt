@@ -1,5 +1,5 @@
 -- A page is stored.
-use Rattle.std.proofs.Common.{◌≡◌, ℕ, ◌+◌, ◌*◌, ◌/◌, ◌%◌, ◌<◌, ◌≤◌, true, false, ◌⊎◌, List, length, Some, None, Option, sym, refl, ap, ◌∙◌, subst, inl, inr, ⊎_elim, arith}
+use Rattle.std.proofs.Common.{◌≡◌, ℕ, ◌+◌, ◌*◌, ◌/◌, ◌%◌, ◌<◌, ◌≤◌, true, false, ◌⊎◌, List, length, Some, None, Option, sym, ap, ◌∙◌, subst, inl, inr, ⊎_elim, arith}
 use Rattle.std.specs.List.{slice_get}
 use Rattle.std.proofs.lemmas.List.{length-set, get_or_past}
 use Rattle.std.proofs.lemmas.Bool.{both_ways, eq-eqb}
@@ -13,7 +13,7 @@ use Rattle.rules.specs.Store.{entry_at, Entered}
 use Rattle.rules.specs.Calls.{Takes, Ready, NoneOffered}
 use Rattle.rules.specs.Making.{Agrees}
 use Rattle.rules.specs.Stands.{StoreStands, Stands}
-use Rattle.rules.proofs.Cases.{some_same}
+use Rattle.std.proofs.lemmas.Option.{same_Some}
 use Rattle.rules.proofs.Tally.{another}
 use Rattle.rules.proofs.Namers.{Fit, leads_cases, written_agrees}
 use Rattle.rules.proofs.Content.{content_new, content_old, content_stays, content_written, written_from, new_unwritten, new_inside}
@@ -132,7 +132,7 @@ module _ (print : Bytes → ℕ) (s : State) (n : ℕ) (x : Bytes) (b : ℕ) (af
         subst (λ q. q < flash_pages s) (sym page_is) inside,
         inr (page_is ∙ sym leads_new),
         new_one.1 ∙ ap (λ i. i % 16) (sym print_is),
-        λ y has. print_is ∙ ap print (let r = ap (content v.part) (sym page_is) ∙ has in some_same (Some x) x y refl (sym fresh ∙ r)),
+        λ y has. print_is ∙ ap print (same_Some x y (sym fresh ∙ ap (content v.part) (sym page_is) ∙ has)),
       ))
       (λ old_one. let st = h.stores.each k e old_one in (
         st.inside,

@@ -1,6 +1,7 @@
 -- The worked examples: the table of sizes, the example's life, and its second write.
 use Rattle.std.proofs.Common.{◌≡◌, ℕ, zero, suc, ◌+◌, ◌-◌, ◌%◌, ◌<◌, ◌≤◌, true, false, ◌⊎◌, List, [], ◌∷◌, length, get_or, set, replicate, Some, None, Ok, Err, Option, sym, refl, ap, ◌∙◌, subst, inl, inr, ⊎_elim, arith, lit<, lit≤}
 use Rattle.std.proofs.lemmas.Bool.{both_ways}
+use Rattle.std.proofs.lemmas.Option.{same_Some}
 use Rattle.flash.specs.Part.{Block, Part, SoundBlock, no_block, erases}
 use Rattle.fingerprint.specs.Fletcher.{fletcher_of}
 use Rattle.fingerprint.specs.Examples.{zeros, starts_with_one, starts_with_two_full}
@@ -142,10 +143,7 @@ others_content : (print : Bytes → ℕ) (s : State) (x y : Bytes) (q : ℕ)
     → ((k : ℕ) (e : Entry) → entry_at s.store k ≡ Some e → e.page ≡ q) → content s.part q ≡ Some x → (x ≡ y → ⊥)
     → NoneOffered print s y
 others_content print s x y q only has ne r (k, is, r_has) =
-    ne (some_same (sym has ∙ ap (content s.part) (sym (only k _ is)) ∙ r_has))
-  where
-    some_same : Some x ≡ Some y → x ≡ y
-    some_same e = cc
+    ne (same_Some x y (sym has ∙ ap (content s.part) (sym (only k _ is)) ∙ r_has))
 
 -- .. nor where every entry has one fingerprint f, which is not y's.
 others_print : (print : Bytes → ℕ) (s : State) (y : Bytes) (f : ℕ)
@@ -157,7 +155,7 @@ none_there : (x : Bytes) → None ≡ Some x → ⊥
 none_there x e = cc
 
 other_there : (x y : Bytes) → (x ≡ y → ⊥) → Some x ≡ Some y → ⊥
-other_there x y ne e = ne (cc)
+other_there x y ne e = ne (same_Some x y e)
 
 -- The start: the part is well-formed and accepted, there are clean blocks enough to store a page, and the store is empty.
 start_made : (print : Bytes → ℕ) → Made print example_start
