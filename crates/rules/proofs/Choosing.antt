@@ -21,41 +21,22 @@ least_of f g zero = inl (λ k l. absurd (omega arith))
 least_of f g (suc n) =
     ⊎_elim
     (λ none. ⊎_elim
-    (λ t. inr (
-      n,
-      omega arith,
-      t,
-      λ c l u.
-          ⊎_elim (λ e. omega (arith, ap g e)) (λ ne. absurd (both_ways (f c) (none c (omega arith)) u)) (cases_eq c n),
-    ))
+    (λ t. inr (n, omega arith, t, more (g n) (λ u. omega arith) (λ c l u. absurd (both_ways (f c) (none c l) u))))
     (λ t. inl (λ k l. ⊎_elim (λ e. ap f e ∙ t) (λ ne. none k (omega arith)) (cases_eq k n)))
     (cases_Bool (f n)))
     (λ b. ⊎_elim
     (λ t. ⊎_elim
-    (λ lower. inr (
-      n,
-      omega arith,
-      t,
-      λ c l u.
-          ⊎_elim (λ e. omega (arith, ap g e)) (λ ne. let r = b.3 c (omega arith) u in omega arith) (cases_eq c n),
-    ))
-    (λ higher. inr (
-      b.0,
-      omega (arith, b.1),
-      b.2,
-      λ c l u.
-          ⊎_elim (λ e. omega (arith, ap g e, higher)) (λ ne. b.3 c (omega arith) u) (cases_eq c n),
-    ))
+    (λ lower. inr (n, omega arith, t, more (g n) (λ u. omega arith) (λ c l u. let r = b.3 c l u in omega arith)))
+    (λ higher. inr (b.0, omega (arith, b.1), b.2, more (g b.0) (λ u. higher) b.3))
     (cases_lt (g n) (g b.0)))
-    (λ t. inr (
-      b.0,
-      omega (arith, b.1),
-      b.2,
-      λ c l u.
-          ⊎_elim (λ e. absurd (both_ways (f n) t (ap f (sym e) ∙ u))) (λ ne. b.3 c (omega arith) u) (cases_eq c n),
-    ))
+    (λ t. inr (b.0, omega (arith, b.1), b.2, more (g b.0) (λ u. absurd (both_ways (f n) t u)) b.3))
     (cases_Bool (f n)))
     (least_of f g n)
+  where
+    -- A bound below n that also holds at n.
+    more : (m : ℕ) → (f n ≡ true → m ≤ g n) → ((c : ℕ) → c < n → f c ≡ true → m ≤ g c) → (c : ℕ) → c < suc n → f c ≡ true → m ≤ g c
+    more m here below c l u =
+        ⊎_elim (λ e. omega (arith, here (ap f (sym e) ∙ u), ap g e)) (λ ne. below c (omega arith) u) (cases_eq c n)
 
 -- Some block is part-written, or none is.
 pub part_written_or : (s : State) → HasPartWritten s ⊎ (HasPartWritten s → ⊥)

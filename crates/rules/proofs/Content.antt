@@ -1,5 +1,5 @@
 -- What the flash pages hold after a program and after an erase.
-use Rattle.std.proofs.Common.{◌≡◌, ℕ, ◌+◌, ◌*◌, ◌/◌, ◌%◌, ◌<◌, true, false, ltb, List, [], ◌∷◌, ◌++◌, length, get_or, is_some, Some, sym, refl, ap, ◌∙◌, subst, ⊎_elim, mul_comm, div-add-mod', arith}
+use Rattle.std.proofs.Common.{◌≡◌, ℕ, ◌+◌, ◌*◌, ◌/◌, ◌%◌, ◌<◌, true, false, ltb, List, [], ◌∷◌, ◌++◌, length, get_or, is_some, Some, unwrap_or, sym, refl, ap, ◌∙◌, subst, ⊎_elim, mul_comm, div-add-mod', arith}
 use Rattle.std.specs.List.{slice_get}
 use Rattle.std.proofs.lemmas.Option.{slice_get-get_or, slice_get_past}
 use Rattle.std.proofs.lemmas.List.{length_push, get_or_append_left, get_or_push, get_or_past}
@@ -35,6 +35,9 @@ content_written p q w = (
   get_or (block p (q / p.per_block)).pages (q % p.per_block) [],
   slice_get-get_or (block p (q / p.per_block)).pages (q % p.per_block) [] (ltb-true (q % p.per_block) (written p (q / p.per_block)) w),
 )
+
+pub content_bytes : (p : Part) (q : ℕ) → is_written p q ≡ true → content p q ≡ Some (unwrap_or (content p q) [])
+content_bytes p q w = let x = content_written p q w in x.1 ∙ ap Some (sym (ap (λ o. unwrap_or o []) x.1))
 
 pub written_from : (p : Part) (q : ℕ) (x : Bytes) → content p q ≡ Some x → is_written p q ≡ true
 written_from p q x e = sym (written_content p q) ∙ ap is_some e

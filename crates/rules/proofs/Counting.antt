@@ -2,13 +2,13 @@
 use Rattle.std.proofs.Common.{◌≡◌, ℕ, zero, suc, ◌+◌, ◌<◌, ◌≤◌, true, cond, ltb, List, [], ◌∷◌, map, length, Some, None, unwrap_or, sym, refl, ap, ◌∙◌, subst, inl, inr, ⊎_elim, arith}
 use Rattle.std.specs.List.{range_with_len}
 use Rattle.std.proofs.lemmas.List.{length-map}
-use Rattle.std.proofs.lemmas.Bool.{cases_Bool, cases_eq, lt-ltb, le-ltb, ltb-true, cond-true, cond-false}
+use Rattle.std.proofs.lemmas.Bool.{cases_lt, cases_eq, lt-ltb, le-ltb, cond-true, cond-false}
 use Rattle.rules.specs.State.{Bytes, State, no_page, flash_pages, host_pages, reach, content, in_use, is_written, live_pages, held, page_map}
 use Rattle.rules.specs.Calls.{Copies}
 use Rattle.rules.specs.Promise.{contents, different}
 use Rattle.rules.proofs.Tally.{tally_same}
 use Rattle.rules.proofs.Members.{In}
-use Rattle.rules.proofs.Content.{content_written, written_inside}
+use Rattle.rules.proofs.Content.{content_bytes, written_inside}
 use Rattle.rules.proofs.Live.{live_from, live_find, live_written, reach_named}
 use Rattle.std.specs.Cmp.{both_ways as same_test}
 use Rattle.rules.proofs.Moving.{Mid, sizes, hosts, some_pages}
@@ -30,27 +30,29 @@ abbrev pub reached : State → List ℕ → List ℕ
 reached s [] = []
 reached s (n ∷ ns) = cond (ltb (reach s n) no_page) (reach s n ∷ reached s ns) (reached s ns)
 
+-- One more host page, by whether it reaches a flash page.
+reached_page : (s : State) (n : ℕ) (ns : List ℕ) → reach s n < no_page → reached s (n ∷ ns) ≡ reach s n ∷ reached s ns
+reached_page s n ns l = cond-true (ltb (reach s n) no_page) _ _ (lt-ltb (reach s n) no_page l)
+
+reached_none : (s : State) (n : ℕ) (ns : List ℕ) → no_page ≤ reach s n → reached s (n ∷ ns) ≡ reached s ns
+reached_none s n ns h = cond-false (ltb (reach s n) no_page) _ _ (le-ltb (reach s n) no_page h)
+
 pub reached_in : (s : State) (ns : List ℕ) (q : ℕ) → In q (reached s ns) → (n : ℕ) × In n ns × (reach s n ≡ q) × (q < no_page)
 reached_in s [] q i = absurd i
 reached_in s (n ∷ ns) q i =
     ⊎_elim
-    (λ t. ⊎_elim (λ e. (n, inl refl, sym e, subst (λ v. v < no_page) (sym e) (ltb-true (reach s n) no_page t)))
+    (λ l. ⊎_elim (λ e. (n, inl refl, sym e, omega arith))
     (λ j. let r = reached_in s ns q j in (r.0, inr r.1, r.2, r.3))
-    (subst (In q) (cond-true (ltb (reach s n) no_page) (reach s n ∷ reached s ns) (reached s ns) t) i))
-    (λ t. let r = reached_in s ns q (subst (In q) (cond-false (ltb (reach s n) no_page) (reach s n ∷ reached s ns) (reached s ns) t) i) in
-    (r.0, inr r.1, r.2, r.3))
-    (cases_Bool (ltb (reach s n) no_page))
+    (subst (In q) (reached_page s n ns l) i))
+    (λ h. let r = reached_in s ns q (subst (In q) (reached_none s n ns h) i) in (r.0, inr r.1, r.2, r.3))
+    (cases_lt (reach s n) no_page)
 
 pub in_reached : (s : State) (ns : List ℕ) (n : ℕ) → In n ns → reach s n < no_page → In (reach s n) (reached s ns)
 in_reached s [] n i l = absurd i
-in_reached s (m ∷ ns) n (inl e) l =
-    subst (In (reach s n)) (sym (cond-true (ltb (reach s m) no_page) (reach s m ∷ reached s ns) (reached s ns)
-    (lt-ltb (reach s m) no_page (subst (λ v. reach s v < no_page) e l)))) (inl (ap (reach s) e))
+in_reached s (m ∷ ns) n (inl e) l = subst (In (reach s n)) (sym (reached_page s m ns (omega (arith, l, ap (reach s) e)))) (inl (ap (reach s) e))
 in_reached s (m ∷ ns) n (inr i) l =
-    ⊎_elim
-    (λ t. subst (In (reach s n)) (sym (cond-true (ltb (reach s m) no_page) (reach s m ∷ reached s ns) (reached s ns) t)) (inr (in_reached s ns n i l)))
-    (λ t. subst (In (reach s n)) (sym (cond-false (ltb (reach s m) no_page) (reach s m ∷ reached s ns) (reached s ns) t)) (in_reached s ns n i l))
-    (cases_Bool (ltb (reach s m) no_page))
+    ⊎_elim (λ small. subst (In (reach s n)) (sym (reached_page s m ns small)) (inr (in_reached s ns n i l)))
+    (λ h. subst (In (reach s n)) (sym (reached_none s m ns h)) (in_reached s ns n i l)) (cases_lt (reach s m) no_page)
 
 module _ (print : Bytes → ℕ) (s : State) (h : Mid print s) where
   -- The bytes of a flash page.
@@ -67,15 +69,9 @@ module _ (print : Bytes → ℕ) (s : State) (h : Mid print s) where
       let l = small n (inl refl) in
       ⊎_elim
       (λ none. let empty : held s n ≡ None = ap (content s.part) none ∙ content_none print s h in
-      ap (λ o. contents (o ∷ map (held s) ns)) empty ∙ rest
-      ∙ ap (map bytes) (sym (cond-false (ltb (reach s n) no_page) (reach s n ∷ reached s ns) (reached s ns)
-      (le-ltb (reach s n) no_page (omega (arith, none))))))
-      (λ k. let x = content_written s.part (reach s n) (reach_written n l k.2) in
-      ap (λ o. contents (o ∷ map (held s) ns)) x.1
-      ∙ ap (λ ys. x.0 ∷ ys) rest
-      ∙ ap (λ y. y ∷ map bytes (reached s ns)) (sym (ap (λ o. unwrap_or o []) x.1))
-      ∙ ap (map bytes) (sym (cond-true (ltb (reach s n) no_page) (reach s n ∷ reached s ns) (reached s ns)
-      (lt-ltb (reach s n) no_page k.2))))
+      ap (λ o. contents (o ∷ map (held s) ns)) empty ∙ rest ∙ ap (map bytes) (sym (reached_none s n ns (omega (arith, none)))))
+      (λ k. ap (λ o. contents (o ∷ map (held s) ns)) (content_bytes s.part (reach s n) (reach_written n l k.2))
+      ∙ ap (λ ys. bytes (reach s n) ∷ ys) rest ∙ ap (map bytes) (sym (reached_page s n ns k.2)))
       (reach_named s (hosts print s h) h.agrees n l)
 
   abbrev all : List ℕ
@@ -120,8 +116,7 @@ module _ (print : Bytes → ℕ) (s : State) (h : Mid print s) where
       has : (q : ℕ) → In q (reached s all) → content s.part q ≡ Some (bytes q)
       has q i =
           let r = reached_in s all q i in
-          let x = content_written s.part q (ap (is_written s.part) (sym r.2) ∙ reach_written r.0 (all_small r.0 r.1) (omega (arith, r.2, r.3))) in
-          x.1 ∙ ap Some (sym (ap (λ o. unwrap_or o []) x.1))
+          content_bytes s.part q (ap (is_written s.part) (sym r.2) ∙ reach_written r.0 (all_small r.0 r.1) (omega (arith, r.2, r.3)))
 
       reached_in_use : (q : ℕ) → In q (reached s all) → in_use s q ≡ true
       reached_in_use q i = let r = reached_in s all q i in live_from s r.0 q (all_small r.0 r.1) r.2

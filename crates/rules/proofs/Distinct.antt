@@ -74,30 +74,21 @@ occurs_find g y (x ∷ xs) t =
     ⊎_elim (λ e. (x, inl refl, equal_from_same y (g x) e))
     (λ i. let r = occurs_find g y xs i in (r.0, inr r.1, r.2)) (or_cases (same_bytes y (g x)) (occurs y (map g xs)) t)
 
+-- One more content, by whether it occurs already.
+different_again : (x : Bytes) (xs : List Bytes) → occurs x xs ≡ true → different (x ∷ xs) ≡ different xs
+different_again x xs t = cond-true (occurs x xs) _ _ t
+
+different_new : (x : Bytes) (xs : List Bytes) → occurs x xs ≡ false → different (x ∷ xs) ≡ different xs + 1
+different_new x xs t = cond-false (occurs x xs) _ _ t
+
 -- There are no more different contents than different pages ..
 pub different_le : (g : ℕ → Bytes) (xs : List ℕ) → different (map g xs) ≤ distinct xs
 different_le g [] = omega arith
 different_le g (x ∷ xs) =
     ⊎_elim
-    (λ t. omega (
-      arith,
-      distinct_again x xs t,
-      different_le g xs,
-      cond-true (occurs (g x) (map g xs)) (different (map g xs)) (different (map g xs) + 1) (occurs_from g x xs (stands_in_find x xs t)),
-    ))
-    (λ t. ⊎_elim
-    (λ o. omega (
-      arith,
-      distinct_new x xs t,
-      different_le g xs,
-      cond-true (occurs (g x) (map g xs)) (different (map g xs)) (different (map g xs) + 1) o,
-    ))
-    (λ o. omega (
-      arith,
-      distinct_new x xs t,
-      different_le g xs,
-      cond-false (occurs (g x) (map g xs)) (different (map g xs)) (different (map g xs) + 1) o,
-    ))
+    (λ t. omega (arith, distinct_again x xs t, different_le g xs, different_again (g x) (map g xs) (occurs_from g x xs (stands_in_find x xs t))))
+    (λ t. ⊎_elim (λ o. omega (arith, distinct_new x xs t, different_le g xs, different_again (g x) (map g xs) o))
+    (λ o. omega (arith, distinct_new x xs t, different_le g xs, different_new (g x) (map g xs) o))
     (cases_Bool (occurs (g x) (map g xs))))
     (cases_Bool (stands_in x xs))
 
@@ -107,8 +98,8 @@ different_all g [] one = refl
 different_all g (x ∷ xs) one =
     let rest = different_all g xs (λ p q i j. one p q (inr i) (inr j)) in
     ⊎_elim
-    (λ t. cond-true (occurs (g x) (map g xs)) _ _ (occurs_from g x xs (stands_in_find x xs t)) ∙ rest ∙ sym (distinct_again x xs t))
-    (λ t. cond-false (occurs (g x) (map g xs)) _ _
+    (λ t. different_again (g x) (map g xs) (occurs_from g x xs (stands_in_find x xs t)) ∙ rest ∙ sym (distinct_again x xs t))
+    (λ t. different_new (g x) (map g xs)
     (false_from_ne_true (occurs (g x) (map g xs)) (λ o. let r = occurs_find g (g x) xs o in
     both_ways (stands_in x xs) t (stands_in_from x xs (subst (λ i. In i xs) (sym (one x r.0 (inl refl) (inr r.1) r.2)) r.1))))
     ∙ ap (λ c. c + 1) rest ∙ sym (distinct_new x xs t))

@@ -17,7 +17,7 @@ use Rattle.rules.proofs.Sizes.{Sizes, sizes_fit, host_few}
 use Rattle.rules.proofs.Namers.{renamed_cases, rename_agrees}
 use Rattle.rules.proofs.Reaches.{goes_renamed}
 use Rattle.rules.proofs.Crossing.{name_mapped}
-use Rattle.rules.proofs.Content.{content_new, content_old, content_stays, content_written, written_from, written_inside, new_unwritten, new_inside, content_whole}
+use Rattle.rules.proofs.Content.{content_new, content_old, content_stays, content_written, content_bytes, written_from, written_inside, new_unwritten, new_inside, content_whole}
 use Rattle.rules.proofs.Live.{live_from, live_find, live_written, reach_named}
 use Rattle.rules.proofs.LetGo.{entry_mapped}
 use Rattle.rules.proofs.Blocks.{Single, takes_room, single_appended}
@@ -83,18 +83,15 @@ module _ (print : Bytes → ℕ) (s : State) (q b : ℕ) (h : Mid print s) (take
   abbrev new : ℕ
   new = next_page s b
 
-  -- The bytes that are moved.
-  bytes : (x : Bytes) × (content p q ≡ Some x)
-  bytes = content_written p q w
-
   room : written p b < per_block s
   room = takes_room s b (some_pages print s h) takes
 
+  -- The bytes that are moved.
   abbrev x : Bytes
   x = unwrap_or (content p q) []
 
   x_is : content p q ≡ Some x
-  x_is = bytes.1 ∙ ap Some (sym (ap (λ o. unwrap_or o []) bytes.1))
+  x_is = content_bytes p q w
 
   pub new_small : new < no_page
   new_small = omega (arith, new_inside p (some_pages print s h) b x takes.0 room, (sizes print s h).all)

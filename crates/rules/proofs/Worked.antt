@@ -1,7 +1,7 @@
 -- The worked examples: the table of sizes, the example's life, and its second write.
 use Rattle.std.proofs.Common.{◌≡◌, ℕ, zero, suc, ◌+◌, ◌-◌, ◌%◌, ◌<◌, ◌≤◌, true, false, ◌⊎◌, List, [], ◌∷◌, length, get_or, set, replicate, Some, None, Ok, Err, Option, sym, refl, ap, ◌∙◌, subst, inl, inr, ⊎_elim, arith, lit<, lit≤}
 use Rattle.std.proofs.lemmas.Bool.{both_ways}
-use Rattle.std.proofs.lemmas.Option.{same_Some}
+use Rattle.std.proofs.lemmas.Option.{none-some, same_Some}
 use Rattle.flash.specs.Part.{Block, Part, SoundBlock, no_block, erases}
 use Rattle.fingerprint.specs.Fletcher.{fletcher_of}
 use Rattle.fingerprint.specs.Examples.{zeros, starts_with_one, starts_with_two_full}
@@ -150,10 +150,7 @@ others_print : (print : Bytes → ℕ) (s : State) (y : Bytes) (f : ℕ)
     → ((k : ℕ) (e : Entry) → entry_at s.store k ≡ Some e → e.print ≡ f) → (print y ≡ f → ⊥) → NoneOffered print s y
 others_print print s y f only ne r (k, is, r_has) = ne (only k _ is)
 
--- Empty is no content, and one content is not another.
-none_there : (x : Bytes) → None ≡ Some x → ⊥
-none_there x e = cc
-
+-- One content is not another.
 other_there : (x y : Bytes) → (x ≡ y → ⊥) → Some x ≡ Some y → ⊥
 other_there x y ne e = ne (same_Some x y e)
 
@@ -192,7 +189,7 @@ module _ (print : Bytes → ℕ) (Z H O : Bytes) (z_long : length Z ≡ 256) (h_
   -- Z goes to block 0, and its entry to the first place of segment 0 ..
   z_stored : Step print example_start (write 0 Z) (wrote_as Stored) (after_z print Z)
   z_stored =
-      stored print example_start 0 Z (after_z print Z) (lit< tt) z_long start_ready (none_there Z) (start_none_offered print Z) (
+      stored print example_start 0 Z (after_z print Z) (lit< tt) z_long start_ready (none-some Z) (start_none_offered print Z) (
         0,
         set no_entries 0 (entry_of print Z 0),
         takes_fresh example_start 0 refl refl refl refl (lit< tt) refl refl,
@@ -203,7 +200,7 @@ module _ (print : Bytes → ℕ) (Z H O : Bytes) (z_long : length Z ≡ 256) (h_
   -- .. H beside it, to the second place ..
   h_stored : Step print (after_z print Z) (write 1 H) (wrote_as Stored) (after_h print Z H)
   h_stored =
-      stored print (after_z print Z) 1 H (after_h print Z H) (lit< tt) h_long (inl (0, lit< tt, refl)) (none_there H)
+      stored print (after_z print Z) 1 H (after_h print Z H) (lit< tt) h_long (inl (0, lit< tt, refl)) (none-some H)
       (others_content print (after_z print Z) Z H 0 (λ k e is. ap (λ (d : Entry). d.page) (entry_alone 0 _ (lit< tt) k e is)) refl z_h)
       (0, store_zh print Z H, (lit< tt, inl refl), takes 1 (lit< tt, ap (λ i. i % 16) (sym h_print)) refl refl, refl)
 
@@ -221,7 +218,7 @@ module _ (print : Bytes → ℕ) (Z H O : Bytes) (z_long : length Z ≡ 256) (h_
     (
       lit< tt,
       z_long,
-      (none_there Z, refl, (0, 0, (0, refl, refl), (lit< tt, inr (no_entry, refl)), refl)),
+      (none-some Z, refl, (0, 0, (0, refl, refl), (lit< tt, inr (no_entry, refl)), refl)),
     ),
   )
 
@@ -331,7 +328,7 @@ module _ (print : Bytes → ℕ) (Z H : Bytes) (z_long : length Z ≡ 256) (h_lo
       → ((k : ℕ) (e : Entry) → entry_at m.store k ≡ Some e → e.page ≡ q)
       → (b : Answer) (t : State) → Step print m (write 1 H) b t → b ≡ wrote_as Stored
   h_decided m q inside part empty has only b t step =
-      (at_once print m 1 H inside h_long (inl part) (λ holds. none_there H (sym empty ∙ holds))
+      (at_once print m 1 H inside h_long (inl part) (λ holds. none-some H (sym empty ∙ holds))
       (others_content print m Z H q only has z_h) b t step).0
 
   -- .. and so it is in whichever block Z went.
@@ -361,7 +358,7 @@ module _ (print : Bytes → ℕ) (Z H : Bytes) (z_long : length Z ≡ 256) (h_lo
       → b ≡ wrote_as Stored
   second_write a b m t first second =
       let (i, store, took, entered, is) =
-      (at_once print example_start 0 Z (lit< tt) z_long start_ready (none_there Z) (start_none_offered print Z) a m first).1 in
+      (at_once print example_start 0 Z (lit< tt) z_long start_ready (none-some Z) (start_none_offered print Z) a m first).1 in
       h_decided_in i took.0 store (one_page (next_page example_start i) store entered) b t
       (subst (λ (v : State). Step print v (write 1 H) b t) is second)
 
