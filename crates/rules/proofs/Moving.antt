@@ -110,11 +110,11 @@ module _ (print : Bytes → ℕ) (s : State) (q b : ℕ) (h : Mid print s) (take
       none : renamed q new no_page ≡ no_page
       none = ⊎_elim (λ c. absurd (omega (arith, c.0, q_small))) (λ c. c.1) (renamed_cases q new no_page)
 
-  t_hosts : host_pages t ≡ host_pages s
-  t_hosts = length-map s.words (renamed q new)
+  pub moved_hosts : host_pages t ≡ host_pages s
+  moved_hosts = length-map s.words (renamed q new)
 
-  t_blocks : block_count t ≡ block_count s
-  t_blocks = length-set p.blocks b _
+  pub moved_blocks : block_count t ≡ block_count s
+  moved_blocks = length-set p.blocks b _
 
   written_still : (r : ℕ) → is_written p r ≡ true → is_written t.part r ≡ true
   written_still r l =
@@ -124,7 +124,7 @@ module _ (print : Bytes → ℕ) (s : State) (q b : ℕ) (h : Mid print s) (take
   pub moved_agrees : Agrees t
   moved_agrees =
       subst (λ f. Agree f (is_written t.part) (host_pages t)) (sym t_names)
-      (subst (λ n. Agree (λ k. renamed q new (names s k)) (is_written t.part) n) (sym t_hosts)
+      (subst (λ n. Agree (λ k. renamed q new (names s k)) (is_written t.part) n) (sym moved_hosts)
       (rename_agrees (names s) (is_written p) (is_written t.part) (host_pages s) q new (hosts print s h) h.agrees q_small new_small
       new_fresh (written_from t.part new x (content_new p (some_pages print s h) b x takes.0 room)) written_still))
 
@@ -149,13 +149,13 @@ module _ (print : Bytes → ℕ) (s : State) (q b : ℕ) (h : Mid print s) (take
   pub moved_live : (r : ℕ) → in_use s r ≡ true → in_use t (renamed q new r) ≡ true
   moved_live r live =
       let n = live_find s r live in
-      live_from t n.0 (renamed q new r) (omega (arith, n.1, t_hosts)) (moved_reach n.0 ∙ ap (renamed q new) n.2)
+      live_from t n.0 (renamed q new r) (omega (arith, n.1, moved_hosts)) (moved_reach n.0 ∙ ap (renamed q new) n.2)
 
   -- A page in use afterwards was in use before, under its old number.
   pub moved_live_back : (r : ℕ) → in_use t r ≡ true → (y : ℕ) × (in_use s y ≡ true) × (renamed q new y ≡ r) × (y ≡ new → ⊥)
   moved_live_back r live =
       let n = live_find t r live in
-      let l : n.0 < host_pages s = omega (arith, n.1, t_hosts) in
+      let l : n.0 < host_pages s = omega (arith, n.1, moved_hosts) in
       (reach s n.0, live_from s n.0 (reach s n.0) l refl, sym (moved_reach n.0) ∙ n.2, reach_not_new n.0 l)
 
   -- A store entry is one that was there, under its page's new number.
@@ -199,25 +199,19 @@ module _ (print : Bytes → ℕ) (s : State) (q b : ℕ) (h : Mid print s) (take
     where
       inside_still : (r : ℕ) → r < flash_pages s → renamed q new r < flash_pages t
       inside_still r l =
-          subst (λ n. renamed q new r < n * per_block s) (sym t_blocks)
+          subst (λ n. renamed q new r < n * per_block s) (sym moved_blocks)
           (⊎_elim (λ c. subst (λ v. v < flash_pages s) (sym c.1) (new_inside p (some_pages print s h) b x takes.0 room))
           (λ c. subst (λ v. v < flash_pages s) (sym c.1) l) (renamed_cases q new r))
 
   pub moved_mid : Mid print t
   moved_mid = record {
-    fits = fits_same s t t_blocks refl t_hosts h.fits;
-    entries = length-map s.shared (renamed q new) ∙ h.entries ∙ ap (λ n. n * per_block s) (sym t_blocks);
+    fits = fits_same s t moved_blocks refl moved_hosts h.fits;
+    entries = length-map s.shared (renamed q new) ∙ h.entries ∙ ap (λ n. n * per_block s) (sym moved_blocks);
     flash = sound_appended p b x takes.0 room (content_whole p q x h.flash x_is) h.flash;
     agrees = moved_agrees;
     single = single_appended s t b x refl takes h.single;
     stores = moved_stores;
   }
-
-  pub moved_hosts : host_pages t ≡ host_pages s
-  moved_hosts = t_hosts
-
-  pub moved_blocks : block_count t ≡ block_count s
-  moved_blocks = t_blocks
 
   pub moved_wear : wear t.part ≡ wear p + 1
   moved_wear = wear_appended p b x takes.0

@@ -48,8 +48,8 @@ module _ (print : Bytes → ℕ) (s : State) (i j e : ℕ) (h : Mid print s) (ap
       (⊎_elim (λ c. absurd (let d = leads_cases (names u) no_page in grind (arith, c.0, d, j_small))) (λ c. c.1) (merged_word_cases (names u) j k no_page))
       (⊎_elim (λ c. absurd (omega (arith, c.0, j_small))) (λ c. c.1) (merged_entry_cases j no_page)))
 
-  t_hosts : host_pages t ≡ host_pages s
-  t_hosts = length-map u.words (merged_word (names u) j k) ∙ lifted_hosts print s i e h copies.2 i_small entry
+  pub merged_hosts : host_pages t ≡ host_pages s
+  merged_hosts = length-map u.words (merged_word (names u) j k) ∙ lifted_hosts print s i e h copies.2 i_small entry
 
   t_agrees : Agrees t
   t_agrees =
@@ -77,16 +77,16 @@ module _ (print : Bytes → ℕ) (s : State) (i j e : ℕ) (h : Mid print s) (ap
 
   copy_dead : in_use t j ≡ false
   copy_dead = live_not t j (λ n l is.
-      ⊎_elim (λ r. absurd (omega (arith, r.1, is))) (λ r. r.0 (sym r.1 ∙ is)) (merged_reach n (omega (arith, l, t_hosts))))
+      ⊎_elim (λ r. absurd (omega (arith, r.1, is))) (λ r. r.0 (sym r.1 ∙ is)) (merged_reach n (omega (arith, l, merged_hosts))))
 
   others_same : (q : ℕ) → (q ≡ j → ⊥) → in_use s q ≡ in_use t q
   others_same q ne =
       same_test (in_use s q) (in_use t q)
       (λ live. let n = live_find s q live in
       ⊎_elim (λ r. absurd (ne (sym n.2 ∙ r.0)))
-      (λ r. live_from t n.0 q (omega (arith, n.1, t_hosts)) (r.1 ∙ n.2)) (merged_reach n.0 n.1))
+      (λ r. live_from t n.0 q (omega (arith, n.1, merged_hosts)) (r.1 ∙ n.2)) (merged_reach n.0 n.1))
       (λ live. let n = live_find t q live in
-      let l : n.0 < host_pages s = omega (arith, n.1, t_hosts) in
+      let l : n.0 < host_pages s = omega (arith, n.1, merged_hosts) in
       ⊎_elim (λ r. ap (in_use s) (sym (sym r.1 ∙ n.2)) ∙ copies.2)
       (λ r. live_from s n.0 q l (sym r.1 ∙ n.2)) (merged_reach n.0 l))
 
@@ -101,7 +101,7 @@ module _ (print : Bytes → ℕ) (s : State) (i j e : ℕ) (h : Mid print s) (ap
 
   pub merged_mid : Mid print t
   merged_mid = record {
-    fits = fits_same s t refl refl t_hosts h.fits;
+    fits = fits_same s t refl refl merged_hosts h.fits;
     entries = length-map u.shared (merged_entry j) ∙ u_mid.entries;
     flash = h.flash;
     agrees = t_agrees;
@@ -114,9 +114,6 @@ module _ (print : Bytes → ℕ) (s : State) (i j e : ℕ) (h : Mid print s) (ap
           h.stores.apart a b c d (entry_left j s.store a c a_is).0 (entry_left j s.store b d b_is).0 same;
     };
   }
-
-  pub merged_hosts : host_pages t ≡ host_pages s
-  merged_hosts = t_hosts
 
 -- What a scan keeps and does: at its end no two pages in use have equal content.
 pub record Scanned (print : Bytes → ℕ) (s : State) (died : ℕ) (t : State) : Type 0 where

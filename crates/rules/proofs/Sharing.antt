@@ -90,15 +90,15 @@ module _ (print : Bytes → ℕ) (s : State) (q e : ℕ) (h : Mid print s) (live
           (way j) ∙ sym (put_other (put (names s) n k) k q j c.0))
           (put_cases redirected k q j)
 
-  u_hosts : host_pages u ≡ host_pages s
-  u_hosts = length-map s.words (redirect q k)
+  pub lifted_hosts : host_pages u ≡ host_pages s
+  lifted_hosts = length-map s.words (redirect q k)
 
   pub lifted_entry : names u k ≡ q
   lifted_entry = u_names k ∙ put_same redirected k q
 
   lifted_agrees : Agrees u
   lifted_agrees =
-      subst (λ n. Agree (names u) (is_written s.part) n) (sym u_hosts)
+      subst (λ n. Agree (names u) (is_written s.part) n) (sym lifted_hosts)
       (⊎_elim
       (λ same. subst (λ f. Agree f (is_written s.part) (host_pages s)) (sym same) h.agrees)
       (λ d. subst (λ f. Agree f (is_written s.part) (host_pages s)) (sym (d.4 ∙ ap (put (put (names s) d.0 k) k) (sym d.2)))
@@ -116,11 +116,11 @@ module _ (print : Bytes → ℕ) (s : State) (q e : ℕ) (h : Mid print s) (live
       u_is
 
   pub lifted_live : (r : ℕ) → in_use u r ≡ in_use s r
-  lifted_live r = live_same s u u_hosts lifted_reach r
+  lifted_live r = live_same s u lifted_hosts lifted_reach r
 
   pub lifted_mid : Mid print u
   lifted_mid = record {
-    fits = fits_same s u refl refl u_hosts h.fits;
+    fits = fits_same s u refl refl lifted_hosts h.fits;
     entries = length-set s.shared e q ∙ h.entries;
     flash = h.flash;
     agrees = lifted_agrees;
@@ -133,9 +133,6 @@ module _ (print : Bytes → ℕ) (s : State) (q e : ℕ) (h : Mid print s) (live
     };
   }
 
-  pub lifted_hosts : host_pages u ≡ host_pages s
-  lifted_hosts = u_hosts
-
 -- A word is pointed elsewhere, and its old reference let go.
 module _ (print : Bytes → ℕ) (v : State) (n w : ℕ) (h : Mid print v) (in_host : n < host_pages v)
     (fit : Fit (names v) (is_written v.part) w) where
@@ -145,43 +142,37 @@ module _ (print : Bytes → ℕ) (v : State) (n w : ℕ) (h : Mid print v) (in_h
   few : host_pages v ≤ 4096
   few = hosts print v h
 
-  t_part : t.part ≡ v.part
-  t_part = repoint_part v n w few in_host h.agrees fit
+  pub pointed_part : t.part ≡ v.part
+  pointed_part = repoint_part v n w few in_host h.agrees fit
 
-  t_hosts : host_pages t ≡ host_pages v
-  t_hosts = repoint_hosts v n w few in_host h.agrees fit
+  pub pointed_hosts : host_pages t ≡ host_pages v
+  pointed_hosts = repoint_hosts v n w few in_host h.agrees fit
 
   pub pointed_mid : Mid print t
   pointed_mid = record {
-    fits = fits_same v t (ap (λ (y : Part). length y.blocks) t_part) (ap (λ (y : Part). y.per_block) t_part) t_hosts h.fits;
-    entries = repoint_shared v n w few in_host h.agrees fit ∙ h.entries ∙ ap (λ (y : Part). length y.blocks * y.per_block) (sym t_part);
-    flash = subst Sound (sym t_part) h.flash;
+    fits = fits_same v t (ap (λ (y : Part). length y.blocks) pointed_part) (ap (λ (y : Part). y.per_block) pointed_part) pointed_hosts h.fits;
+    entries = repoint_shared v n w few in_host h.agrees fit ∙ h.entries ∙ ap (λ (y : Part). length y.blocks * y.per_block) (sym pointed_part);
+    flash = subst Sound (sym pointed_part) h.flash;
     agrees = repoint_agrees v n w few in_host h.agrees fit;
-    single = subst (λ (y : Part). Single (record { part = y; words = t.words; shared = t.shared; store = t.store })) (sym t_part) h.single;
+    single = subst (λ (y : Part). Single (record { part = y; words = t.words; shared = t.shared; store = t.store })) (sym pointed_part) h.single;
     stores = record {
       places = repoint_places v n w few in_host h.agrees fit ∙ h.stores.places;
       each = λ k d is. let was = repoint_was v n w few in_host h.agrees fit k d is in let st = h.stores.each k d was in
           record {
             segment = st.segment;
-            inside = subst (λ (y : Part). d.page < length y.blocks * y.per_block) (sym t_part) st.inside;
+            inside = subst (λ (y : Part). d.page < length y.blocks * y.per_block) (sym pointed_part) st.inside;
             live = (repoint_entry v n w few in_host h.agrees fit k d is (omega (arith, st.inside, (sizes print v h).all)) (inl st.live)).1;
-            right = λ x has. st.right x (ap (λ (y : Part). content y d.page) (sym t_part) ∙ has);
+            right = λ x has. st.right x (ap (λ (y : Part). content y d.page) (sym pointed_part) ∙ has);
           };
       apart = λ j k c d j_is k_is same.
           h.stores.apart j k c d (repoint_was v n w few in_host h.agrees fit j c j_is) (repoint_was v n w few in_host h.agrees fit k d k_is)
-          (ap (λ (y : Part). content y c.page) (sym t_part) ∙ same ∙ ap (λ (y : Part). content y d.page) t_part);
+          (ap (λ (y : Part). content y c.page) (sym pointed_part) ∙ same ∙ ap (λ (y : Part). content y d.page) pointed_part);
     };
   }
 
-  pub pointed_part : t.part ≡ v.part
-  pointed_part = t_part
-
-  pub pointed_hosts : host_pages t ≡ host_pages v
-  pointed_hosts = t_hosts
-
   pub pointed_held : held t n ≡ content v.part (leads (names v) w)
-  pointed_held = ap (λ (y : Part). content y (reach t n)) t_part ∙ ap (content v.part) (reach_here v n w few in_host h.agrees fit)
+  pointed_held = ap (λ (y : Part). content y (reach t n)) pointed_part ∙ ap (content v.part) (reach_here v n w few in_host h.agrees fit)
 
   pub pointed_other : (m : ℕ) → m < host_pages v → (m ≡ n → ⊥) → held t m ≡ held v m
   pointed_other m l ne =
-      ap (λ (y : Part). content y (reach t m)) t_part ∙ ap (content v.part) (reach_other v n w few in_host h.agrees fit m l ne)
+      ap (λ (y : Part). content y (reach t m)) pointed_part ∙ ap (content v.part) (reach_other v n w few in_host h.agrees fit m l ne)

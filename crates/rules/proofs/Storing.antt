@@ -85,8 +85,8 @@ module _ (print : Bytes → ℕ) (s : State) (n : ℕ) (x : Bytes) (b : ℕ) (af
   t_part : t.part ≡ appended s.part b x
   t_part = repoint_part v n new few in_host v_agrees fit
 
-  t_hosts : host_pages t ≡ host_pages s
-  t_hosts = repoint_hosts v n new few in_host v_agrees fit
+  pub stored_hosts : host_pages t ≡ host_pages s
+  stored_hosts = repoint_hosts v n new few in_host v_agrees fit
 
   t_blocks : block_count t ≡ block_count s
   t_blocks = ap (λ (y : Part). length y.blocks) t_part ∙ length-set s.part.blocks b _
@@ -144,16 +144,9 @@ module _ (print : Bytes → ℕ) (s : State) (n : ℕ) (x : Bytes) (b : ℕ) (af
 
   -- A left entry was there before the word was set, and its page is in use.
   t_entry : (k : ℕ) (e : Entry) → entry_at t.store k ≡ Some e → (entry_at after k ≡ Some e) × (in_use t e.page ≡ true)
-  t_entry k e is = repoint_entry v n new few in_host v_agrees fit k e is (small_page is) (before is)
-    where
-      there : entry_at t.store k ≡ Some e → entry_at after k ≡ Some e
-      there has = repoint_was v n new few in_host v_agrees fit k e has
-
-      small_page : entry_at t.store k ≡ Some e → e.page < no_page
-      small_page has = omega (arith, (entry_fact k e (there has)).0, (sizes print s m).all)
-
-      before : entry_at t.store k ≡ Some e → (in_use v e.page ≡ true) ⊎ (e.page ≡ leads (names v) new)
-      before has = (entry_fact k e (there has)).1
+  t_entry k e is =
+      let f = entry_fact k e (repoint_was v n new few in_host v_agrees fit k e is) in
+      repoint_entry v n new few in_host v_agrees fit k e is (omega (arith, f.0, (sizes print s m).all)) f.1
 
   same_content : (q : ℕ) → content t.part q ≡ content v.part q
   same_content q = ap (λ (y : Part). content y q) t_part
@@ -205,7 +198,7 @@ module _ (print : Bytes → ℕ) (s : State) (n : ℕ) (x : Bytes) (b : ℕ) (af
   stored_stands =
       stands print t
       (record {
-        fits = fits_same s t t_blocks t_per t_hosts h.sizes;
+        fits = fits_same s t t_blocks t_per stored_hosts h.sizes;
         entries = repoint_shared v n new few in_host v_agrees fit ∙ h.entries
             ∙ sym (ap (λ c. c * per_block t) t_blocks ∙ ap (λ c. block_count s * c) t_per);
         flash = subst Sound (sym t_part) (sound_appended s.part b x takes.0 room whole h.flash);
@@ -214,9 +207,6 @@ module _ (print : Bytes → ℕ) (s : State) (n : ℕ) (x : Bytes) (b : ℕ) (af
         stores = t_stores;
       })
       t_spare
-
-  pub stored_hosts : host_pages t ≡ host_pages s
-  stored_hosts = t_hosts
 
   pub stored_wear : wear t.part ≡ wear s.part + 1
   stored_wear = ap wear t_part ∙ wear_appended s.part b x takes.0
