@@ -1,9 +1,9 @@
 -- A host page's word takes another value, and the reference that it was is let go.
-use Rattle.std.proofs.Common.{◌≡◌, ℕ, ◌-◌, ◌<◌, ◌≤◌, true, cond, eqb, ltb, ◌⊎◌, List, map, length, get_or, Some, None, Option, sym, refl, ap, ◌∙◌, subst, inl, inr, ⊎_elim, arith}
+use Rattle.std.proofs.Common.{◌≡◌, ℕ, ◌-◌, ◌<◌, ◌≤◌, true, eqb, ltb, ◌⊎◌, List, map, length, get_or, Some, None, Option, sym, refl, ap, ◌∙◌, subst, inl, inr, ⊎_elim, arith}
 use mathlib.Core.Path.{fun_ext}
 use Rattle.std.proofs.lemmas.List.{length-set, length-map, get_or_past}
 use Rattle.std.proofs.Math.ListN.{get_or-map}
-use Rattle.std.proofs.lemmas.Bool.{cases_eq, cases_lt, cases_Bool, eq-eqb, ne_eqb, eqb-true, lt-ltb, le-ltb, ltb-true, cond-true, cond-false, both_ways}
+use Rattle.std.proofs.lemmas.Bool.{cases_eq, cases_lt, eq-eqb, ne_eqb, eqb-true, lt-ltb, ltb-true, cond-true, cond-false, cond_both, eqb-false, ltb-false, both_ways}
 use Rattle.rules.specs.State.{Entry, State, no_page, host_pages, names, leads, reach, in_use, is_written}
 use Rattle.rules.specs.Tables.{without, dies, with_word, with_shared, is_held, let_go, repoint}
 use Rattle.rules.specs.Store.{entry_at}
@@ -33,32 +33,20 @@ pub entry_left : (q : ℕ) (store : List (Option Entry)) (k : ℕ) (e : Entry) �
     → (entry_at store k ≡ Some e) × (e.page ≡ q → ⊥)
 entry_left q store k e is = without_some q (entry_at store k) e (sym (entry_mapped (without q) store k refl) ∙ is)
 
--- What letting go of the value w leaves, by what w was.
-pub data Gone (s : State) (w : ℕ) (t : State) : Type 0 where
-  nothing : w ≡ no_page → t ≡ s → Gone s w t
-  page : w < no_page → t ≡ dies s w → Gone s w t
-  kept : 4096 ≤ w → (n : ℕ) → n < host_pages s → names s n ≡ w → t ≡ s → Gone s w t
-  entry : 4096 ≤ w → ((n : ℕ) → n < host_pages s → names s n ≡ w → ⊥) → t ≡ dies (with_shared s (w - 4096) no_page) (names s w)
-      → Gone s w t
-
-pub gone : (s : State) (w : ℕ) → Gone s w (let_go s w)
-gone s w =
-    ⊎_elim (λ e. nothing e (cond-true _ _ _ (eq-eqb w no_page e)))
-    (λ ne. ⊎_elim
-    (λ low. page (omega arith) (outer ne ∙ cond-true _ _ _ (lt-ltb w 4096 low)))
-    (λ high. ⊎_elim
-    (λ t. let r = tally_find (λ n. eqb (names s n) w) (host_pages s) (ltb-true _ _ t) in
-    kept high r.0 r.1 (eqb-true (names s r.0) w r.2)
-    (outer ne ∙ cond-false _ _ _ (le-ltb w 4096 high) ∙ cond-true _ _ _ t))
-    (λ t. entry high
-    (λ n l is. both_ways _ t (lt-ltb 0 _ (tally_pos (λ m. eqb (names s m) w) (host_pages s) n l (eq-eqb (names s n) w is))))
-    (outer ne ∙ cond-false _ _ _ (le-ltb w 4096 high) ∙ cond-false _ _ _ t))
-    (cases_Bool (is_held s w)))
-    (cases_lt w 4096))
-    (cases_eq w no_page)
-  where
-    outer : (w ≡ no_page → ⊥) → let_go s w ≡ cond (ltb w 4096) (dies s w) (cond (is_held s w) s (dies (with_shared s (w - 4096) no_page) (names s w)))
-    outer ne = cond-false _ _ _ (ne_eqb w no_page ne)
+-- What letting go of the value w leaves has P, if each of the four things that w may have been leaves something that has it.
+let_go_has : (s : State) (w : ℕ) (P : State → Type 0) → (w ≡ no_page → P s) → (w < no_page → P (dies s w))
+    → (4096 ≤ w → (n : ℕ) × (n < host_pages s) × (names s n ≡ w) → P s)
+    → (4096 ≤ w → ((n : ℕ) → n < host_pages s → names s n ≡ w → ⊥) → P (dies (with_shared s (w - 4096) no_page) (names s w)))
+    → P (let_go s w)
+let_go_has s w P nothing page kept entry =
+    cond_both (eqb w no_page) _ _ P (λ t. nothing (eqb-true w no_page t))
+    (λ f. cond_both (ltb w 4096) _ _ P
+    (λ t. let ne = eqb-false w no_page f in let low = ltb-true w 4096 t in page (omega arith))
+    (λ t. let big = ltb-false w 4096 t in
+    cond_both (is_held s w) _ _ P
+    (λ held. let r = tally_find (λ n. eqb (names s n) w) (host_pages s) (ltb-true _ _ held) in kept big (r.0, r.1, eqb-true (names s r.0) w r.2))
+    (λ free. entry big (λ n l is. both_ways _ free
+    (lt-ltb 0 _ (tally_pos (λ m. eqb (names s m) w) (host_pages s) n l (eq-eqb (names s n) w is)))))))
 
 -- A namer that names a page is one of the lists' own.
 pub entry_inside : (s : State) (k : ℕ) → 4096 ≤ k → names s k < no_page → k - 4096 < length s.shared
@@ -106,29 +94,18 @@ module _ (v : State) (n w : ℕ) (few : host_pages v ≤ 4096) (l : n < host_pag
       fun_ext (name_set_entry z.words z.shared old no_page big (entry_inside v old big (old_used big)))
 
   pub repoint_agrees : Agrees (repoint v n w)
-  repoint_agrees = by (repoint v n w) (gone z old)
-    where
-      by : (t : State) → Gone z old t → Agrees t
-      by t (nothing e is) = subst Agrees (sym is) (let_go_kept _ _ _ _ z_agrees (inl (omega arith)))
-      by t (page e is) = subst Agrees (sym is) (let_go_kept _ _ _ _ z_agrees (inl (omega arith)))
-      by t (kept big m in_host holds is) = subst Agrees (sym is) (let_go_kept _ _ _ _ z_agrees (inr (m, in_host, holds)))
-      by t (entry big none is) =
-          subst Agrees (sym is)
-          (subst (λ f. Agree f (is_written v.part) (host_pages z)) (sym (freed_names big))
-          (let_go_freed (names z) (is_written v.part) (host_pages z) old (omega (arith, z_hosts)) z_agrees big (z_past none big)))
+  repoint_agrees =
+      let_go_has z old Agrees (λ e. let_go_kept _ _ _ _ z_agrees (inl (omega arith))) (λ l. let_go_kept _ _ _ _ z_agrees (inl (omega arith)))
+      (λ big held. let_go_kept _ _ _ _ z_agrees (inr held))
+      (λ big none. subst (λ f. Agree f (is_written v.part) (host_pages z)) (sym (freed_names big))
+      (let_go_freed (names z) (is_written v.part) (host_pages z) old (omega (arith, z_hosts)) z_agrees big (z_past none big)))
 
   -- Before the old reference is let go, and after it, the words reach the same pages.
   repoint_reach : (m : ℕ) → m < host_pages v → reach (repoint v n w) m ≡ reach z m
-  repoint_reach m in_host = by (repoint v n w) (gone z old)
-    where
-      by : (t : State) → Gone z old t → reach t m ≡ reach z m
-      by t (nothing e is) = ap (λ (y : State). reach y m) is
-      by t (page e is) = ap (λ (y : State). reach y m) is
-      by t (kept big k k_host holds is) = ap (λ (y : State). reach y m) is
-      by t (entry big none is) =
-          ap (λ (y : State). reach y m) is
-          ∙ ap (λ (f : ℕ → ℕ). leads f (f m)) (freed_names big)
-          ∙ goes_freed (names z) old m big (omega arith) (none m (omega (arith, z_hosts)))
+  repoint_reach m in_host =
+      let_go_has z old (λ y. reach y m ≡ reach z m) (λ e. refl) (λ l. refl) (λ big held. refl)
+      (λ big none. ap (λ (f : ℕ → ℕ). leads f (f m)) (freed_names big)
+      ∙ goes_freed (names z) old m big (omega arith) (none m (omega (arith, z_hosts))))
 
   -- Word n reaches what w leads to, and every other word what it reached.
   pub reach_here : reach (repoint v n w) n ≡ leads (names v) w
@@ -141,52 +118,27 @@ module _ (v : State) (n w : ℕ) (few : host_pages v ≤ 4096) (l : n < host_pag
 
   -- Nothing but the words, the entries and the store changes, and the lists keep their lengths.
   pub repoint_part : (repoint v n w).part ≡ v.part
-  repoint_part = by (repoint v n w) (gone z old)
-    where
-      by : (t : State) → Gone z old t → t.part ≡ v.part
-      by t (nothing e is) = ap (λ (y : State). y.part) is
-      by t (page e is) = ap (λ (y : State). y.part) is
-      by t (kept big k k_host holds is) = ap (λ (y : State). y.part) is
-      by t (entry big none is) = ap (λ (y : State). y.part) is
+  repoint_part = let_go_has z old (λ y. y.part ≡ v.part) (λ e. refl) (λ l. refl) (λ big held. refl) (λ big none. refl)
 
   pub repoint_hosts : host_pages (repoint v n w) ≡ host_pages v
-  repoint_hosts = by (repoint v n w) (gone z old)
-    where
-      by : (t : State) → Gone z old t → host_pages t ≡ host_pages v
-      by t (nothing e is) = ap host_pages is ∙ z_hosts
-      by t (page e is) = ap host_pages is ∙ z_hosts
-      by t (kept big k k_host holds is) = ap host_pages is ∙ z_hosts
-      by t (entry big none is) = ap host_pages is ∙ z_hosts
+  repoint_hosts =
+      let_go_has z old (λ y. host_pages y ≡ host_pages v) (λ e. z_hosts) (λ l. z_hosts) (λ big held. z_hosts) (λ big none. z_hosts)
 
   pub repoint_shared : length (repoint v n w).shared ≡ length v.shared
-  repoint_shared = by (repoint v n w) (gone z old)
-    where
-      by : (t : State) → Gone z old t → length t.shared ≡ length v.shared
-      by t (nothing e is) = ap (λ (y : State). length y.shared) is
-      by t (page e is) = ap (λ (y : State). length y.shared) is
-      by t (kept big k k_host holds is) = ap (λ (y : State). length y.shared) is
-      by t (entry big none is) = ap (λ (y : State). length y.shared) is ∙ length-set v.shared (old - 4096) no_page
+  repoint_shared =
+      let_go_has z old (λ y. length y.shared ≡ length v.shared) (λ e. refl) (λ l. refl) (λ big held. refl)
+      (λ big none. length-set v.shared (old - 4096) no_page)
 
   pub repoint_places : length (repoint v n w).store ≡ length v.store
-  repoint_places = by (repoint v n w) (gone z old)
-    where
-      by : (t : State) → Gone z old t → length t.store ≡ length v.store
-      by t (nothing e is) = ap (λ (y : State). length y.store) is
-      by t (page e is) = ap (λ (y : State). length y.store) is ∙ length-map v.store (without old)
-      by t (kept big k k_host holds is) = ap (λ (y : State). length y.store) is
-      by t (entry big none is) =
-          ap (λ (y : State). length y.store) is ∙ length-map v.store (without (names z old))
+  repoint_places =
+      let_go_has z old (λ y. length y.store ≡ length v.store) (λ e. refl) (λ l. length-map v.store (without old)) (λ big held. refl)
+      (λ big none. length-map v.store (without (names z old)))
 
   -- An entry that is left was there before.
   pub repoint_was : (k : ℕ) (e : Entry) → entry_at (repoint v n w).store k ≡ Some e → entry_at v.store k ≡ Some e
-  repoint_was k e is = by (repoint v n w) is (gone z old)
-    where
-      by : (t : State) → entry_at t.store k ≡ Some e → Gone z old t → entry_at v.store k ≡ Some e
-      by t has (nothing none gives) = ap (λ (y : State). entry_at y.store k) (sym gives) ∙ has
-      by t has (page low gives) = (entry_left old v.store k e (ap (λ (y : State). entry_at y.store k) (sym gives) ∙ has)).0
-      by t has (kept big m in_host holds gives) = ap (λ (y : State). entry_at y.store k) (sym gives) ∙ has
-      by t has (entry big none gives) =
-          (entry_left (names z old) v.store k e (ap (λ (y : State). entry_at y.store k) (sym gives) ∙ has)).0
+  repoint_was k e =
+      let_go_has z old (λ y. entry_at y.store k ≡ Some e → entry_at v.store k ≡ Some e) (λ none is. is)
+      (λ l is. (entry_left old v.store k e is).0) (λ big held is. is) (λ big none is. (entry_left (names z old) v.store k e is).0)
 
   -- A page that was in use, or that w leads to, is in use afterwards, unless it was what the last reference n let go of.
   stays_live : (q : ℕ) → (in_use v q ≡ true) ⊎ (q ≡ leads (names v) w) → (reach v n ≡ q → in_use (repoint v n w) q ≡ true)
@@ -202,32 +154,17 @@ module _ (v : State) (n w : ℕ) (few : host_pages v ≤ 4096) (l : n < host_pag
   pub repoint_entry : (k : ℕ) (e : Entry) → entry_at (repoint v n w).store k ≡ Some e → e.page < no_page
       → (in_use v e.page ≡ true) ⊎ (e.page ≡ leads (names v) w)
       → (entry_at v.store k ≡ Some e) × (in_use (repoint v n w) e.page ≡ true)
-  repoint_entry k e is small before = by (repoint v n w) refl (gone z old)
-    where
-      is_in : (t : State) → t ≡ repoint v n w → entry_at t.store k ≡ Some e
-      is_in t same = ap (λ (y : State). entry_at y.store k) same ∙ is
-
-      by : (t : State) → t ≡ repoint v n w → Gone z old t → (entry_at v.store k ≡ Some e) × (in_use (repoint v n w) e.page ≡ true)
-      by t same (nothing none gives) = (
-        ap (λ (y : State). entry_at y.store k) (sym gives) ∙ is_in t same,
-        stays_live e.page before (λ r. absurd (let c = leads_cases (names v) old in grind (arith, c, r, none))),
-      )
-      by t same (page low gives) =
-          let left = entry_left old v.store k e (ap (λ (y : State). entry_at y.store k) (sym gives) ∙ is_in t same) in (
-            left.0,
-            stays_live e.page before
-                (λ r. absurd (left.1 (sym r ∙ ⊎_elim (λ c. c.1) (λ c. absurd (omega (arith, c.0))) (leads_cases (names v) old)))),
-          )
-      by t same (kept big m in_host holds gives) = (
-        ap (λ (y : State). entry_at y.store k) (sym gives) ∙ is_in t same,
-        stays_live e.page before
-            (λ r. live_from (repoint v n w) m e.page (omega (arith, repoint_hosts, z_hosts))
-            (repoint_reach m (omega (arith, z_hosts)) ∙ ap (leads (names z)) holds
-            ∙ leads_same (names z) (names v) old (λ h. z_old big) ∙ r)),
-      )
-      by t same (entry big none gives) =
-          let left = entry_left (names z old) v.store k e (ap (λ (y : State). entry_at y.store k) (sym gives) ∙ is_in t same) in (
-            left.0,
-            stays_live e.page before
-                (λ r. absurd (left.1 (sym r ∙ ⊎_elim (λ c. absurd (omega (arith, c.0))) (λ c. c.1) (leads_cases (names v) old) ∙ sym (z_old big)))),
-          )
+  repoint_entry k e is small before = (
+    repoint_was k e is,
+    let_go_has z old (λ y. entry_at y.store k ≡ Some e → in_use (repoint v n w) e.page ≡ true)
+        (λ none has. stays_live e.page before (λ r. absurd (let c = leads_cases (names v) old in grind (arith, c, r, none))))
+        (λ l has. stays_live e.page before (λ r. absurd ((entry_left old v.store k e has).1
+        (sym r ∙ ⊎_elim (λ c. c.1) (λ c. absurd (omega (arith, c.0))) (leads_cases (names v) old)))))
+        (λ big held has. stays_live e.page before
+        (λ r. live_from (repoint v n w) held.0 e.page (omega (arith, held.1, repoint_hosts, z_hosts))
+        (repoint_reach held.0 (omega (arith, held.1, z_hosts)) ∙ ap (leads (names z)) held.2
+        ∙ leads_same (names z) (names v) old (λ h. z_old big) ∙ r)))
+        (λ big none has. stays_live e.page before (λ r. absurd ((entry_left (names z old) v.store k e has).1
+        (sym r ∙ ⊎_elim (λ c. absurd (omega (arith, c.0))) (λ c. c.1) (leads_cases (names v) old) ∙ sym (z_old big)))))
+        is,
+  )
