@@ -8,15 +8,15 @@ use Rattle.rules.specs.declared.refusal.Refusal.{Refusal}
 use Rattle.rules.specs.declared.refusal.Refusal.TheVariants.{WornOut, NoSuchPage, Length, Empty, NothingToCollect, ShortBuffer}
 use Rattle.rules.specs.declared.kind.Kind.TheVariants.{Stored, Shared, Unchanged}
 use Rattle.rules.specs.declared.answer.Written.{Written}
-use Rattle.rules.specs.declared.answer.Usage.{Usage}
+use Rattle.rules.specs.declared.answer.Reply.{Reply}
 use Rattle.rules.specs.declared.answer.Reply.TheVariants.{Wrote, Page, Number, Used}
-use Rattle.rules.specs.State.{Bytes, Entry, State, tally, block_count, per_block, flash_pages, host_pages, content, in_use, is_clean, hotness, clean_blocks, live_in, live_pages, dead_pages, unwritten_pages, held}
+use Rattle.rules.specs.State.{Bytes, Entry, State, tally, block_count, per_block, flash_pages, host_pages, content, in_use, is_clean, hotness, clean_blocks, live_in, live_pages, held}
 use Rattle.rules.specs.Tables.{next_page, merged}
 use Rattle.rules.specs.Store.{entry_at, Offers}
-use Rattle.rules.specs.Calls.{Ready, Stores, Holds, NoneOffered, Writes, Reads, Trims, Collects, Copies, Merges}
+use Rattle.rules.specs.Calls.{Ready, Stores, Holds, NoneOffered, Writes, Reads, Trims, Collects, Copies, Merges, Scans, Asks}
 use Rattle.rules.specs.Image.{image_length}
 use Rattle.rules.specs.Stands.{Stands}
-use Rattle.rules.specs.Answers.{answer_of}
+use Rattle.rules.specs.Answers.{Answer, answer_of}
 use Rattle.rules.specs.Runs.{Saves}
 use Rattle.rules.specs.Runs.Call.{write, read, trim, collect, scan, usage, save}
 use Rattle.rules.specs.Theorems.{EveryCallAnswered}
@@ -204,14 +204,17 @@ save_some s len =
     ⊎_elim (λ short. (Err ShortBuffer, s, (refl, refl, short))) (λ fits. (Ok _, s, (refl, refl, fits)))
     (cases_lt len (image_length (block_count s) (per_block s) (host_pages s)))
 
+-- A result of a rule is an answer.
+answered : {X : Type 0} (reply : X → Reply) (rule : Result X Refusal → State → Type 0) → (r : Result X Refusal) × (t : State) × rule r t
+    → (a : Answer) × (t : State) × ((r : Result X Refusal) × (a ≡ answer_of reply r) × rule r t)
+answered reply rule (r, t, p) = (answer_of reply r, t, (r, refl, p))
+
 pub every_call_answered : EveryCallAnswered
-every_call_answered print s (write n x) h = let r = write_some print s n x h in (answer_of Wrote r.0, r.1, (r.0, refl, r.2))
-every_call_answered print s (read n len) h = let r = read_some s n len in (answer_of Page r.0, r.1, (r.0, refl, r.2))
-every_call_answered print s (trim n) h = let r = trim_some s n in (answer_of Number r.0, r.1, (r.0, refl, r.2))
-every_call_answered print s collect h = let r = collect_some print s h in (answer_of Number r.0, r.1, (r.0, refl, r.2))
+every_call_answered print s (write n x) h = answered Wrote (Writes print s n x) (write_some print s n x h)
+every_call_answered print s (read n len) h = answered Page (Reads s n len) (read_some s n len)
+every_call_answered print s (trim n) h = answered Number (Trims s n) (trim_some s n)
+every_call_answered print s collect h = answered Number (Collects s) (collect_some print s h)
 every_call_answered print s scan h =
-    let r = merges_some print (live_pages s) s (mid print s h) (omega arith) in (Ok (Number r.0), r.1, (Ok r.0, refl, r.2))
-every_call_answered print s usage h =
-    let u : Usage = record { live = live_pages s; dead = dead_pages s; unwritten = unwritten_pages s } in
-    (Ok (Used u), s, (Ok u, refl, (refl, refl, refl, refl)))
-every_call_answered print s (save len) h = let r = save_some s len in (answer_of Number r.0, r.1, (r.0, refl, r.2))
+    let r = merges_some print (live_pages s) s (mid print s h) (omega arith) in answered Number (Scans s) (Ok r.0, r.1, r.2)
+every_call_answered print s usage h = answered Used (Asks s) (Ok _, s, (refl, refl, refl, refl))
+every_call_answered print s (save len) h = answered Number (Saves s len) (save_some s len)

@@ -1,5 +1,5 @@
 -- Which flash page a host page's word reaches after a small change of the namers.
-use Rattle.std.proofs.Common.{◌≡◌, ℕ, ◌<◌, ◌≤◌, Bool, cond, eqb, ◌⊎◌, sym, ap, ◌∙◌, subst, inl, inr, ⊎_elim, arith}
+use Rattle.std.proofs.Common.{◌≡◌, ℕ, ◌<◌, ◌≤◌, Bool, cond, eqb, sym, ap, ◌∙◌, subst, ⊎_elim, arith}
 use Rattle.std.proofs.lemmas.Bool.{cases_eq, eq-eqb, ne_eqb}
 use Rattle.rules.specs.State.{no_page, leads}
 use Rattle.rules.specs.Tables.{renamed}
@@ -57,22 +57,10 @@ goes_lifted f is_written host n k m a l big l' direct free =
 pub goes_renamed : (f : ℕ → ℕ) (q q' n : ℕ) → q < no_page → q' < no_page
     → goes (λ k. renamed q q' (f k)) n ≡ renamed q q' (goes f n)
 goes_renamed f q q' n small small' =
-    ⊎_elim (λ low. let p = renamed_cases q q' (f n) in
+    let p = renamed_cases q q' (f n) in
     let d = leads_cases (λ k. renamed q q' (f k)) (renamed q q' (f n)) in
-    grind_low low p d)
-    (λ high. let p = renamed_cases q q' (f n) in
-    let same : renamed q q' (f n) ≡ f n = ⊎_elim (λ h. absurd (omega (arith, h.0, high.0))) (λ h. h.1) p in
-    let d = leads_cases (λ k. renamed q q' (f k)) (f n) in
-    ap (leads (λ k. renamed q q' (f k))) same
-    ∙ ⊎_elim (λ l. absurd (omega (arith, l.0, high.0))) (λ h. h.1) d ∙ ap (renamed q q') (sym high.1))
-    (leads_cases f (f n))
-  where
-    grind_low : (f n < 4096) × (leads f (f n) ≡ f n) → ((f n ≡ q) × (renamed q q' (f n) ≡ q')) ⊎ ((f n ≡ q → ⊥) × (renamed q q' (f n) ≡ f n))
-        → ((renamed q q' (f n) < 4096) × (leads (λ k. renamed q q' (f k)) (renamed q q' (f n)) ≡ renamed q q' (f n)))
-        ⊎ ((4096 ≤ renamed q q' (f n)) × (leads (λ k. renamed q q' (f k)) (renamed q q' (f n)) ≡ renamed q q' (f (renamed q q' (f n)))))
-        → leads (λ k. renamed q q' (f k)) (renamed q q' (f n)) ≡ renamed q q' (leads f (f n))
-    grind_low low p (inl d) = d.1 ∙ ap (renamed q q') (sym low.1)
-    grind_low low p (inr d) = absurd (⊎_elim (λ h. omega (arith, h.1, d.0)) (λ h. omega (arith, h.1, d.0, low.0)) p)
+    let c = leads_cases f (f n) in
+    grind (arith, p, d, c)
 
 -- The copy j is merged into the page of entry e.
 pub goes_merged : (f : ℕ → ℕ) (j e n : ℕ) → 4096 ≤ e → (f e ≡ j → ⊥) → n < 4096
