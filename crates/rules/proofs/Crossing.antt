@@ -1,10 +1,11 @@
 -- What the namers hold after a change of the list of words or of the list of entries.
-use Rattle.std.proofs.Common.{◌≡◌, ℕ, ◌-◌, ◌<◌, ◌≤◌, cond, ltb, List, map, length, get_or, set, sym, ap, ◌∙◌, subst, ⊎_elim, arith}
+use Rattle.std.proofs.Common.{◌≡◌, ℕ, ◌-◌, ◌<◌, ◌≤◌, cond, ltb, List, map, length, get_or, set, sym, ap, ◌∙◌, arith}
 use Rattle.std.proofs.lemmas.List.{get_or-set_same, get_or-set_other, get_or_past}
 use Rattle.std.proofs.Math.ListN.{get_or-map}
-use Rattle.std.proofs.lemmas.Bool.{cases_eq, cases_lt, lt-ltb, le-ltb}
+use Rattle.std.proofs.lemmas.Bool.{lt-ltb, le-ltb}
+use Rattle.std.proofs.lemmas.Bool.Decides.{nat_tests}
 use Rattle.rules.specs.State.{no_page, name}
-use Rattle.rules.proofs.Namers.{put, put_same, put_other}
+use Rattle.rules.proofs.Namers.{put}
 
 -- A namer is a word or an entry.
 pub name_word : (words shared : List ℕ) (k : ℕ) → k < 4096 → name words shared k ≡ get_or words k no_page
@@ -20,28 +21,12 @@ name_past words shared k h l = name_word words shared k l ∙ get_or_past words 
 pub name_set_word : (words shared : List ℕ) (n w : ℕ) → n < length words → length words ≤ 4096
     → (k : ℕ) → name (set words n w) shared k ≡ put (name words shared) n w k
 name_set_word words shared n w l few k =
-    ⊎_elim
-    (λ e. subst (λ i. name (set words n w) shared i ≡ put (name words shared) n w i) (sym e)
-    (name_word (set words n w) shared n (omega arith) ∙ get_or-set_same words n w no_page l ∙ sym (put_same (name words shared) n w)))
-    (λ ne. ⊎_elim
-    (λ low. name_word (set words n w) shared k low ∙ get_or-set_other words n k w no_page ne ∙ sym (name_word words shared k low))
-    (λ high. name_entry (set words n w) shared k high ∙ sym (name_entry words shared k high))
-    (cases_lt k 4096) ∙ sym (put_other (name words shared) n w k ne))
-    (cases_eq k n)
+    grind (arith, nat_tests, get_or-set_same words n w no_page l, get_or-set_other words n k w no_page)
 
 pub name_set_entry : (words shared : List ℕ) (x v : ℕ) → 4096 ≤ x → x - 4096 < length shared
     → (k : ℕ) → name words (set shared (x - 4096) v) k ≡ put (name words shared) x v k
 name_set_entry words shared x v big l k =
-    ⊎_elim
-    (λ e. subst (λ i. name words (set shared (x - 4096) v) i ≡ put (name words shared) x v i) (sym e)
-    (name_entry words (set shared (x - 4096) v) x big ∙ get_or-set_same shared (x - 4096) v no_page l
-    ∙ sym (put_same (name words shared) x v)))
-    (λ ne. ⊎_elim
-    (λ low. name_word words (set shared (x - 4096) v) k low ∙ sym (name_word words shared k low))
-    (λ high. name_entry words (set shared (x - 4096) v) k high
-    ∙ get_or-set_other shared (x - 4096) (k - 4096) v no_page (λ e. ne (omega arith)) ∙ sym (name_entry words shared k high))
-    (cases_lt k 4096) ∙ sym (put_other (name words shared) x v k ne))
-    (cases_eq k x)
+    grind (arith, nat_tests, get_or-set_same shared (x - 4096) v no_page l, get_or-set_other shared (x - 4096) (k - 4096) v no_page)
 
 -- A list mapped by a function that keeps "none".
 pub get_d_mapped : (g : ℕ → ℕ) (xs : List ℕ) (k : ℕ) → g no_page ≡ no_page → get_or (map g xs) k no_page ≡ g (get_or xs k no_page)
@@ -51,20 +36,9 @@ get_d_mapped g xs k keeps =
 pub name_mapped : (g h : ℕ → ℕ) (words shared : List ℕ) → g no_page ≡ no_page → h no_page ≡ no_page
     → (k : ℕ) → name (map g words) (map h shared) k ≡ cond (ltb k 4096) (g (name words shared k)) (h (name words shared k))
 name_mapped g h words shared keeps keeps' k =
-    ⊎_elim
-    (λ l. name_word (map g words) (map h shared) k l ∙ get_d_mapped g words k keeps ∙ ap g (sym (name_word words shared k l))
-    ∙ ap (λ t. cond t (g (name words shared k)) (h (name words shared k))) (sym (lt-ltb k 4096 l)))
-    (λ b. name_entry (map g words) (map h shared) k b ∙ get_d_mapped h shared (k - 4096) keeps' ∙ ap h (sym (name_entry words shared k b))
-    ∙ ap (λ t. cond t (g (name words shared k)) (h (name words shared k))) (sym (le-ltb k 4096 b)))
-    (cases_lt k 4096)
+    grind (arith, nat_tests, get_d_mapped g words k keeps, get_d_mapped h shared (k - 4096) keeps')
 
 -- Only the words are mapped.
 pub name_mapped_words : (g : ℕ → ℕ) (words shared : List ℕ) → g no_page ≡ no_page
     → (k : ℕ) → name (map g words) shared k ≡ cond (ltb k 4096) (g (name words shared k)) (name words shared k)
-name_mapped_words g words shared keeps k =
-    ⊎_elim
-    (λ l. name_word (map g words) shared k l ∙ get_d_mapped g words k keeps ∙ ap g (sym (name_word words shared k l))
-    ∙ ap (λ t. cond t (g (name words shared k)) (name words shared k)) (sym (lt-ltb k 4096 l)))
-    (λ b. name_entry (map g words) shared k b ∙ sym (name_entry words shared k b)
-    ∙ ap (λ t. cond t (g (name words shared k)) (name words shared k)) (sym (le-ltb k 4096 b)))
-    (cases_lt k 4096)
+name_mapped_words g words shared keeps k = grind (arith, nat_tests, get_d_mapped g words k keeps)

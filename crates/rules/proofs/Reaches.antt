@@ -1,10 +1,11 @@
 -- Which flash page a host page's word reaches after a small change of the namers.
 use Rattle.std.proofs.Common.{◌≡◌, ℕ, ◌<◌, ◌≤◌, Bool, cond, eqb, sym, ap, ◌∙◌, subst, ⊎_elim, arith}
-use Rattle.std.proofs.lemmas.Bool.{cases_eq, eq-eqb, ne_eqb}
+use Rattle.std.proofs.lemmas.Bool.{cases_eq}
 use Rattle.rules.specs.State.{no_page, leads}
 use Rattle.rules.specs.Tables.{renamed}
 use Rattle.rules.specs.Making.{Agree}
-use Rattle.rules.proofs.Namers.{put, put_same, put_other, renamed_cases, leads_cases, merged_names, merged_word, merged_entry, merged_cases, merged_word_cases, merged_entry_cases}
+use Rattle.rules.proofs.Cases.{by_eq}
+use Rattle.rules.proofs.Namers.{put, put_same, put_other, renamed_cases, leads_cases, merged_names, merged_cases, merged_word_cases, merged_entry_cases}
 
 -- The page that word n reaches.
 abbrev pub goes : (ℕ → ℕ) → ℕ → ℕ
@@ -12,10 +13,7 @@ goes f n = leads f (f n)
 
 -- A word leads to the same page whatever the words hold: only an entry can change that.
 pub leads_same : (f g : ℕ → ℕ) (w : ℕ) → (4096 ≤ w → f w ≡ g w) → leads f w ≡ leads g w
-leads_same f g w same =
-    ⊎_elim (λ l. let p = leads_cases f w in let q = leads_cases g w in grind (arith, p, q))
-    (λ h. let p = leads_cases f w in let q = leads_cases g w in let e = same h.0 in grind (arith, p, q))
-    (leads_cases f w)
+leads_same f g w same = let p = leads_cases f w in let q = leads_cases g w in grind (arith, p, q, same)
 
 -- Word n takes the value w.
 pub goes_word : (f : ℕ → ℕ) (n w : ℕ) → n < 4096 → goes (put f n w) n ≡ leads f w
@@ -66,28 +64,16 @@ goes_renamed f q q' n small small' =
 pub goes_merged : (f : ℕ → ℕ) (j e n : ℕ) → 4096 ≤ e → (f e ≡ j → ⊥) → n < 4096
     → goes (merged_names f j e) n ≡ cond (eqb (goes f n) j) (f e) (goes f n)
 goes_merged f j e n big apart l =
-    ⊎_elim
-    (λ h. ap (leads g) (word ∙ h.1) ∙ at_e ∙ ap (λ t. cond t (f e) (goes f n)) (sym (eq-eqb (goes f n) j h.0)))
-    (λ h. ap (leads g) (word ∙ h.1)
-    ∙ ⊎_elim
-    (λ low. ⊎_elim (λ d. d.1 ∙ sym low.1) (λ d. absurd (omega (arith, d.0, low.0))) (leads_cases g (f n)))
-    (λ high. ⊎_elim (λ d. absurd (omega (arith, d.0, high.0)))
-    (λ d. d.1 ∙ entry (f n) high.0
-    ∙ ⊎_elim (λ c. absurd (h.0 (high.1 ∙ c.0))) (λ c. c.1) (merged_entry_cases j (f (f n))) ∙ sym high.1)
-    (leads_cases g (f n)))
-    (leads_cases f (f n))
-    ∙ ap (λ t. cond t (f e) (goes f n)) (sym (ne_eqb (goes f n) j h.0)))
-    (merged_word_cases f j e (f n))
-  where
-    g : ℕ → ℕ
-    g = merged_names f j e
-
-    word : g n ≡ merged_word f j e (f n)
-    word = ⊎_elim (λ c. c.1) (λ c. absurd (omega (arith, c.0))) (merged_cases f j e n)
-
-    entry : (k : ℕ) → 4096 ≤ k → g k ≡ merged_entry j (f k)
-    entry k h = ⊎_elim (λ c. absurd (omega (arith, c.0))) (λ c. c.1) (merged_cases f j e k)
-
-    at_e : leads g e ≡ f e
-    at_e = ⊎_elim (λ d. absurd (omega (arith, d.0))) (λ d. d.1) (leads_cases g e) ∙ entry e big
-        ∙ ⊎_elim (λ c. absurd (apart c.0)) (λ c. c.1) (merged_entry_cases j (f e))
+    grind (
+      arith,
+      merged_cases f j e n,
+      merged_word_cases f j e (f n),
+      leads_cases f (f n),
+      leads_cases (merged_names f j e) (f n),
+      merged_cases f j e (f n),
+      merged_entry_cases j (f (f n)),
+      leads_cases (merged_names f j e) e,
+      merged_cases f j e e,
+      merged_entry_cases j (f e),
+      by_eq (goes f n) j (f e) (goes f n),
+    )
