@@ -45,19 +45,13 @@ module _ (f : ℕ → ℕ) (is_written : ℕ → Bool) (host : ℕ) (few : host 
     once = λ j k small e.
         let p = put_cases f n w j in let q = put_cases f n w k in
         grind (arith, p, q, fit, a.once j k);
-    there = λ k small. there_put k small (put_cases f n w k);
+    there = λ k small. let p = put_cases f n w k in grind (arith, p, fit, a.there k);
     alive = λ k big ne small.
         let same : put f n w k ≡ f k = put_other f n w k (λ e. absurd (omega arith)) in
         let r = a.alive k big (subst (λ v. v < no_page) same small) in
         let apart : r.0 ≡ n → ⊥ = λ e. ne (sym r.2 ∙ ap f e) in
         (r.0, r.1, put_other f n w r.0 apart ∙ r.2);
   }
-    where
-      there_put : (k : ℕ) → put f n w k < no_page
-          → ((k ≡ n) × (put f n w k ≡ w)) ⊎ ((k ≡ n → ⊥) × (put f n w k ≡ f k)) → is_written (put f n w k) ≡ true
-      there_put k small (inl (e, is)) =
-          ap is_written is ∙ ⊎_elim (λ none. absurd (omega arith)) (⊎_elim (λ page. page.1) (λ entry. absurd (omega arith))) fit
-      there_put k small (inr (ne, is)) = ap is_written is ∙ a.there k (subst (λ v. v < no_page) is small)
 
   -- A page that word n named directly is shared through the free entry k.
   pub lift_put : (n k : ℕ) → n < host → f n < no_page → 4096 ≤ k → f k ≡ no_page
@@ -69,10 +63,7 @@ module _ (f : ℕ → ℕ) (is_written : ℕ → Bool) (host : ℕ) (few : host 
     once = λ i j small e.
         let p = both i in let q = both j in
         grind (arith, p, q, a.once i j, a.once i n, a.once n j, a.once j n);
-    there = λ j small.
-        ⊎_elim (λ h. ap is_written h.1 ∙ a.there n direct)
-        (⊎_elim (λ h. absurd (omega (arith, h.1)))
-        (λ h. ap is_written h.2 ∙ a.there j (subst (λ v. v < no_page) h.2 small))) (both j);
+    there = λ j small. let p = both j in grind (arith, p, a.there n, a.there j);
     alive = λ j wide small.
         ⊎_elim (λ h. (n, l, named h))
         (⊎_elim (λ h. absurd (omega (arith, h.0)))
@@ -115,8 +106,7 @@ let_go_freed f is_written host x few a big free = record {
   flat = λ k wide. let p = put_cases f x no_page k in grind (arith, p, a.flat k wide);
   once = λ j k small e.
       let p = put_cases f x no_page j in let q = put_cases f x no_page k in grind (arith, p, q, a.once j k);
-  there = λ k small. ⊎_elim (λ h. absurd (omega (arith, h.1)))
-      (λ h. ap is_written h.1 ∙ a.there k (subst (λ v. v < no_page) h.1 small)) (put_cases f x no_page k);
+  there = λ k small. let p = put_cases f x no_page k in grind (arith, p, a.there k);
   alive = λ k wide small. ⊎_elim (λ h. absurd (omega (arith, h.1)))
       (λ h. let r = a.alive k wide h.0 (subst (λ v. v < no_page) h.1 small) in
       (r.0, r.1, put_other f x no_page r.0 (λ e. absurd (omega (arith, r.1))) ∙ r.2)) (put_cases f x no_page k);
@@ -135,16 +125,13 @@ rename_agrees f is_written is_written' host q q' few a small small' fresh here m
   used = λ n l wide.
       let p = renamed_cases q q' (f n) in
       let r = renamed_cases q q' (f (f n)) in
-      let same : renamed q q' (f n) ≡ f n = ⊎_elim (λ h. absurd (omega (arith, h.1))) (λ h. h.1) p in
-      subst (λ v. renamed q q' (f v) < no_page) (sym same)
-      (grind (arith, r, a.used n l, same));
+      let again = renamed_cases q q' (f (renamed q q' (f n))) in
+      grind (arith, p, r, again, a.used n l);
   flat = λ k wide. let p = renamed_cases q q' (f k) in grind (arith, p, a.flat k wide);
   once = λ j k l e.
       let p = renamed_cases q q' (f j) in let r = renamed_cases q q' (f k) in
       grind (arith, p, r, fresh j, fresh k, a.once j k);
-  there = λ k l. ⊎_elim (λ h. ap is_written' h.1 ∙ here)
-      (λ h. ap is_written' h.1 ∙ more (f k) (a.there k (subst (λ v. v < no_page) h.1 l)))
-      (renamed_cases q q' (f k));
+  there = λ k l. let p = renamed_cases q q' (f k) in grind (arith, p, here, more (f k), a.there k);
   alive = λ k wide l.
       let p = renamed_cases q q' (f k) in
       let m = a.alive k wide (grind (arith, p)) in
@@ -195,15 +182,11 @@ merge_agrees f is_written host j e few a big taken apart = record {
       let c = merged_cases f j e n in
       let w = merged_word_cases f j e (f n) in
       let d = leads_cases f (f n) in
-      let at_e : merged_names f j e e < no_page = let c' = merged_cases f j e e in let q = merged_entry_cases j (f e) in grind (arith, c', q) in
-      ⊎_elim
-      (λ h. subst (λ v. merged_names f j e v < no_page) (sym (merged_names_word f j e n l ∙ h.1)) at_e)
-      (λ h. subst (λ v. merged_names f j e v < no_page) (sym (merged_names_word f j e n l ∙ h.1))
-      (let is : merged_names f j e n ≡ f n = merged_names_word f j e n l ∙ h.1 in
-      let c'' = merged_cases f j e (f n) in
-      let q = merged_entry_cases j (f (f n)) in
-      grind (arith, c'', q, d, h.0, a.used n l, is)))
-      w;
+      let at_e = merged_cases f j e e in
+      let q = merged_entry_cases j (f e) in
+      let there = merged_cases f j e (f n) in
+      let r = merged_entry_cases j (f (f n)) in
+      grind (arith, c, w, d, at_e, q, there, r, a.used n l);
   flat = λ k wide. let c = merged_cases f j e k in let q = merged_entry_cases j (f k) in grind (arith, c, q, a.flat k wide);
   once = λ i k small same.
       let x = merged_direct f j e i big small in
