@@ -158,13 +158,11 @@ module _ (v : State) (n w : ℕ) (few : host_pages v ≤ 4096) (l : n < host_pag
     repoint_was k e is,
     let_go_has z old (λ y. entry_at y.store k ≡ Some e → in_use (repoint v n w) e.page ≡ true)
         (λ none has. stays_live e.page before (λ r. absurd (let c = leads_cases (names v) old in grind (arith, c, r, none))))
-        (λ l has. stays_live e.page before (λ r. absurd ((entry_left old v.store k e has).1
-        (sym r ∙ ⊎_elim (λ c. c.1) (λ c. absurd (omega (arith, c.0))) (leads_cases (names v) old)))))
+        (λ l has. stays_live e.page before (λ r. let c = leads_cases (names v) old in grind (arith, c, r, (entry_left old v.store k e has).1)))
         (λ big held has. stays_live e.page before
         (λ r. live_from (repoint v n w) held.0 e.page (omega (arith, held.1, repoint_hosts, z_hosts))
         (repoint_reach held.0 (omega (arith, held.1, z_hosts)) ∙ ap (leads (names z)) held.2
         ∙ leads_same (names z) (names v) old (λ h. z_old big) ∙ r)))
-        (λ big none has. stays_live e.page before (λ r. absurd ((entry_left (names z old) v.store k e has).1
-        (sym r ∙ ⊎_elim (λ c. absurd (omega (arith, c.0))) (λ c. c.1) (leads_cases (names v) old) ∙ sym (z_old big)))))
+        (λ big none has. stays_live e.page before (λ r. let c = leads_cases (names v) old in grind (arith, c, r, z_old big, (entry_left (names z old) v.store k e has).1)))
         is,
   )

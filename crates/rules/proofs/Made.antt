@@ -1,9 +1,10 @@
 -- A device that was made stands.
-use Rattle.std.proofs.Common.{◌≡◌, ℕ, ◌+◌, ◌-◌, ◌*◌, ◌/◌, ◌<◌, true, eqb, List, [], ◌∷◌, length, get_or, replicate, Some, None, Option, sym, refl, ap, ◌∙◌, subst, inl, inr, ⊎_elim, arith}
+use Rattle.std.proofs.Common.{◌≡◌, ℕ, ◌-◌, ◌*◌, ◌/◌, ◌<◌, true, List, [], ◌∷◌, length, get_or, replicate, Some, None, Option, sym, refl, ap, ◌∙◌, subst, inl, inr, ⊎_elim, arith}
 use Rattle.std.proofs.lemmas.List.{length-map, length-replicate, get_or-replicate, get_or_past}
 use Rattle.std.proofs.Math.ListN.{get_or-map}
-use Rattle.std.proofs.lemmas.Bool.{cases_eq, cases_lt, eq-eqb, ne_eqb, cond-true, cond-false}
-use Rattle.flash.specs.Part.{Block, Part, SoundBlock, Sound, no_block, written, erases}
+use Rattle.std.proofs.lemmas.Bool.{cases_lt, eq-eqb}
+use Rattle.std.proofs.lemmas.Bool.Decides.{nat_tests}
+use Rattle.flash.specs.Part.{Block, Part, SoundBlock, Sound, no_block, written}
 use Rattle.rules.specs.State.{Bytes, Entry, State, no_page, block_count, per_block, flash_pages, host_pages, names, content, in_use, hotness}
 use Rattle.rules.specs.Store.{entry_at, Entered}
 use Rattle.rules.specs.Tables.{with_store}
@@ -50,18 +51,7 @@ module _ (print : Bytes → ℕ) (p : Part) (host : ℕ) (sound : Sound p) (acce
         subst (SoundBlock p.per_block p.endurance) (sym (get_or-map cleared p.blocks b no_block))
         (record {
           room = omega arith;
-          worn_at_most = ⊎_elim
-              (λ z. omega (
-                arith,
-                (sound.each b in_p).worn_at_most,
-                cond-true (eqb (written p b) 0) (erases p b) (erases p b + 1) (eq-eqb (written p b) 0 z),
-              ))
-              (λ nz. omega (
-                arith,
-                accepts.1 b in_p nz,
-                cond-false (eqb (written p b) 0) (erases p b) (erases p b + 1) (ne_eqb (written p b) 0 nz),
-              ))
-              (cases_eq (written p b) 0);
+          worn_at_most = grind (arith, nat_tests, (sound.each b in_p).worn_at_most, accepts.1 b in_p);
           whole = λ k none. absurd (omega arith);
         });
     limit = sound.limit;

@@ -108,7 +108,7 @@ module _ (print : Bytes → ℕ) (s : State) (q b : ℕ) (h : Mid print s) (take
   t_names = fun_ext (λ k. name_mapped (renamed q new) (renamed q new) s.words s.shared none none k ∙ same_ways (ltb k 4096) _)
     where
       none : renamed q new no_page ≡ no_page
-      none = ⊎_elim (λ c. absurd (omega (arith, c.0, q_small))) (λ c. c.1) (renamed_cases q new no_page)
+      none = grind (arith, renamed_cases q new no_page, q_small)
 
   pub moved_hosts : host_pages t ≡ host_pages s
   moved_hosts = length-map s.words (renamed q new)
@@ -134,10 +134,13 @@ module _ (print : Bytes → ℕ) (s : State) (q b : ℕ) (h : Mid print s) (take
   -- A page has the content it had, under its new number.
   pub moved_content : (r : ℕ) → (r ≡ new → ⊥) → content t.part (renamed q new r) ≡ content p r
   moved_content r ne =
-      ⊎_elim
-      (λ c. ap (content t.part) c.1 ∙ content_new p (some_pages print s h) b x takes.0 room ∙ sym x_is ∙ ap (content p) (sym c.0))
-      (λ c. ap (content t.part) c.1 ∙ content_old p (some_pages print s h) b x takes.0 room r ne)
-      (renamed_cases q new r)
+      grind (
+        arith,
+        renamed_cases q new r,
+        content_new p (some_pages print s h) b x takes.0 room,
+        x_is,
+        content_old p (some_pages print s h) b x takes.0 room r ne,
+      )
 
   pub reach_not_new : (n : ℕ) → n < host_pages s → reach s n ≡ new → ⊥
   reach_not_new n l is =
@@ -200,8 +203,7 @@ module _ (print : Bytes → ℕ) (s : State) (q b : ℕ) (h : Mid print s) (take
       inside_still : (r : ℕ) → r < flash_pages s → renamed q new r < flash_pages t
       inside_still r l =
           subst (λ n. renamed q new r < n * per_block s) (sym moved_blocks)
-          (⊎_elim (λ c. subst (λ v. v < flash_pages s) (sym c.1) (new_inside p (some_pages print s h) b x takes.0 room))
-          (λ c. subst (λ v. v < flash_pages s) (sym c.1) l) (renamed_cases q new r))
+          (grind (arith, renamed_cases q new r, new_inside p (some_pages print s h) b x takes.0 room))
 
   pub moved_mid : Mid print t
   moved_mid = record {

@@ -45,8 +45,8 @@ module _ (print : Bytes → ℕ) (s : State) (i j e : ℕ) (h : Mid print s) (ap
   t_names : names t ≡ merged_names (names u) j k
   t_names =
       fun_ext (name_mapped (merged_word (names u) j k) (merged_entry j) u.words u.shared
-      (⊎_elim (λ c. absurd (let d = leads_cases (names u) no_page in grind (arith, c.0, d, j_small))) (λ c. c.1) (merged_word_cases (names u) j k no_page))
-      (⊎_elim (λ c. absurd (omega (arith, c.0, j_small))) (λ c. c.1) (merged_entry_cases j no_page)))
+      (grind (arith, merged_word_cases (names u) j k no_page, leads_cases (names u) no_page, j_small))
+      (grind (arith, merged_entry_cases j no_page, j_small)))
 
   pub merged_hosts : host_pages t ≡ host_pages s
   merged_hosts = length-map u.words (merged_word (names u) j k) ∙ lifted_hosts print s i e h copies.2 i_small entry
@@ -77,7 +77,7 @@ module _ (print : Bytes → ℕ) (s : State) (i j e : ℕ) (h : Mid print s) (ap
 
   copy_dead : in_use t j ≡ false
   copy_dead = live_not t j (λ n l is.
-      ⊎_elim (λ r. absurd (omega (arith, r.1, is))) (λ r. r.0 (sym r.1 ∙ is)) (merged_reach n (omega (arith, l, merged_hosts))))
+      grind (arith, merged_reach n (omega (arith, l, merged_hosts))))
 
   others_same : (q : ℕ) → (q ≡ j → ⊥) → in_use s q ≡ in_use t q
   others_same q ne =

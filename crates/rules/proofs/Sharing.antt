@@ -7,7 +7,7 @@ use Rattle.rules.specs.State.{Bytes, State, no_page, host_pages, name, names, le
 use Rattle.rules.specs.Tables.{EntryFor, lifted, repoint}
 use Rattle.rules.specs.Making.{Agree, Agrees}
 use Rattle.rules.proofs.Cases.{by_eq, by_lt}
-use Rattle.rules.proofs.Namers.{put, put_same, put_other, put_cases, Fit, lift_put, leads_cases}
+use Rattle.rules.proofs.Namers.{put, put_same, put_cases, Fit, lift_put, leads_cases}
 use Rattle.rules.proofs.Reaches.{goes_lifted}
 use Rattle.rules.proofs.Crossing.{name_set_entry, name_mapped_words}
 use Rattle.rules.proofs.Live.{live_find, live_same}
@@ -44,7 +44,7 @@ module _ (print : Bytes → ℕ) (s : State) (q e : ℕ) (h : Mid print s) (live
       ∙ name_set_entry (map (redirect q k) s.words) s.shared k q (omega arith) (omega (arith, entry.0, h.entries)) j
       ∙ ap (λ (f : ℕ → ℕ). put f k q j)
       (fun_ext (name_mapped_words (redirect q k) s.words s.shared
-      (⊎_elim (λ c. absurd (omega (arith, c.0, small))) (λ c. c.1) (redirect_cases q k no_page))))
+      (grind (arith, redirect_cases q k no_page, small))))
 
   -- Either nothing changes, or a word n that named q directly now names the entry, which was free.
   u_is : (names u ≡ names s) ⊎ ((n : ℕ) × (n < host_pages s) × (names s n ≡ q) × (names s k ≡ no_page) × (names u ≡ put (put (names s) n k) k q))
@@ -68,27 +68,15 @@ module _ (print : Bytes → ℕ) (s : State) (q e : ℕ) (h : Mid print s) (live
 
       as_was : names s k ≡ q → (j : ℕ) → put redirected k q j ≡ names s j
       as_was own j =
-          ⊎_elim (λ c. c.1 ∙ sym own ∙ ap (names s) (sym c.0))
-          (λ c. c.1 ∙ ⊎_elim
-          (λ low. low.1 ∙ ⊎_elim
-          (λ r. absurd (c.0 (h.agrees.once j k (omega (arith, r.0, small)) (r.0 ∙ sym own)))) (λ r. r.1)
-          (redirect_cases q k (names s j)))
-          (λ high. high.1) (way j))
-          (put_cases redirected k q j)
+          let a = put_cases redirected k q j in let b = way j in let c = redirect_cases q k (names s j) in
+          grind (arith, a, b, c, h.agrees.once j k, own, small)
 
       now_shared : (n : ℕ) → n < host_pages s → names s n ≡ q → (j : ℕ)
           → put redirected k q j ≡ put (put (names s) n k) k q j
       now_shared n l direct j =
-          ⊎_elim (λ c. c.1 ∙ sym (subst (λ i. put (put (names s) n k) k q i ≡ q) (sym c.0) (put_same (put (names s) n k) k q)))
-          (λ c. c.1 ∙ ⊎_elim
-          (λ low. low.1 ∙ ⊎_elim
-          (λ r. r.1 ∙ sym (subst (λ i. put (names s) n k i ≡ k)
-          (h.agrees.once n j (omega (arith, direct, small)) (direct ∙ sym r.0)) (put_same (names s) n k)))
-          (λ r. r.1 ∙ sym (put_other (names s) n k j (λ e. r.0 (ap (names s) e ∙ direct))))
-          (redirect_cases q k (names s j)))
-          (λ high. high.1 ∙ sym (put_other (names s) n k j (λ e. absurd (omega (arith, high.0, hosts print s h)))))
-          (way j) ∙ sym (put_other (put (names s) n k) k q j c.0))
-          (put_cases redirected k q j)
+          let a = put_cases redirected k q j in let b = way j in let c = redirect_cases q k (names s j) in
+          let d = put_cases (put (names s) n k) k q j in let e = put_cases (names s) n k j in
+          grind (arith, a, b, c, d, e, h.agrees.once n j, direct, small, hosts print s h)
 
   pub lifted_hosts : host_pages u ≡ host_pages s
   lifted_hosts = length-map s.words (redirect q k)

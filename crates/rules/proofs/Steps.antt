@@ -1,5 +1,5 @@
 -- Every rule keeps what stands, answers as a plain page map, and wears the flash by what it answers.
-use Rattle.std.proofs.Common.{◌≡◌, ℕ, ◌+◌, ◌<◌, Bool, true, cond, eqb, ◌⊎◌, length, set, is_some, Some, None, Ok, Err, Result, sym, refl, ap, ◌∙◌, subst, inl, inr, ⊎_elim, arith}
+use Rattle.std.proofs.Common.{◌≡◌, ℕ, ◌+◌, ◌<◌, Bool, true, cond, eqb, ◌⊎◌, length, set, is_some, Some, None, Ok, Err, Result, sym, refl, ap, ◌∙◌, subst, inl, inr, arith}
 use Rattle.std.proofs.lemmas.Bool.Decides.{nat_tests}
 use Rattle.flash.specs.Part.{Part, written, appended, wear}
 use Rattle.rules.specs.declared.refusal.Refusal.{Refusal}
@@ -125,7 +125,7 @@ write_shared print s n x moved t h inside whole (other, none, (q, e, offers, ent
     fit = inr (inr (omega arith, omega (arith, v_entry, small)))
 
     leads_q : leads (names v) k ≡ q
-    leads_q = ⊎_elim (λ c. absurd (omega (arith, c.0))) (λ c. c.1 ∙ v_entry) (leads_cases (names v) k)
+    leads_q = grind (arith, leads_cases (names v) k, v_entry)
 
     part_same : (repoint v n k).part ≡ s.part
     part_same = pointed_part print v n k v_mid in_v fit
@@ -215,7 +215,7 @@ trim_outcome print s n (Ok had) t h (inside, count, is) =
     part_same = pointed_part print s n no_page m₀ inside fit
 
     none_led : leads (names s) no_page ≡ no_page
-    none_led = ⊎_elim (λ c. c.1) (λ c. absurd (omega (arith, c.0))) (leads_cases (names s) no_page)
+    none_led = grind (arith, leads_cases (names s) no_page)
 
 collect_outcome : (print : Bytes → ℕ) (s : State) (r : Result ℕ Refusal) (t : State) → Stands print s
     → Collects s r t → Outcome print s collect (answer_of Number r) t

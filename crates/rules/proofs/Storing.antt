@@ -80,7 +80,7 @@ module _ (print : Bytes → ℕ) (s : State) (n : ℕ) (x : Bytes) (b : ℕ) (af
   few = hosts print s m
 
   leads_new : leads (names v) new ≡ new
-  leads_new = ⊎_elim (λ c. c.1) (λ c. absurd (omega (arith, c.0, small))) (leads_cases (names v) new)
+  leads_new = grind (arith, leads_cases (names v) new, small)
 
   t_part : t.part ≡ appended s.part b x
   t_part = repoint_part v n new few in_host v_agrees fit
