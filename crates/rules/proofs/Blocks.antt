@@ -1,7 +1,8 @@
 -- The kinds of the blocks after a program and after an erase.
-use Rattle.std.proofs.Common.{◌≡◌, ℕ, ◌+◌, ◌<◌, true, ltb, length, sym, ap, ◌∙◌, subst, inl, inr, ⊎_elim, arith}
+use Rattle.std.proofs.Common.{◌≡◌, ℕ, ◌+◌, ◌<◌, true, length, sym, ap, ◌∙◌, subst, inl, inr, ⊎_elim, arith}
 use Rattle.std.proofs.lemmas.List.{length_push, length-set}
-use Rattle.std.proofs.lemmas.Bool.{cases_eq, eqb-true, lt-ltb, ltb-true, and_parts, and_from}
+use Rattle.std.proofs.lemmas.Bool.{cases_eq, eqb-true}
+use Rattle.std.proofs.lemmas.Bool.Decides.{nat_tests}
 use Rattle.flash.specs.Part.{Block, Part, block, written, appended, erased}
 use Rattle.flash.proofs.Keeps.{block_put, block_other}
 use Rattle.rules.specs.State.{Bytes, State, block_count, per_block, is_clean, is_closed, is_part_written}
@@ -14,13 +15,10 @@ Single s = (b c : ℕ) → b < block_count s → c < block_count s → is_part_w
 -- What a test on a block's pages written says.
 pub part_written_in : (s : State) (b : ℕ) → is_part_written s b ≡ true → (0 < written s.part b) × (written s.part b < per_block s)
 part_written_in s b t =
-    let r = and_parts (ltb 0 (written s.part b)) (ltb (written s.part b) (per_block s)) t in
-    (ltb-true 0 (written s.part b) r.0, ltb-true (written s.part b) (per_block s) r.1)
+    (grind (arith, nat_tests), grind (arith, nat_tests))
 
 pub part_written_from : (s : State) (b : ℕ) → 0 < written s.part b → written s.part b < per_block s → is_part_written s b ≡ true
-part_written_from s b l h =
-    and_from (ltb 0 (written s.part b)) (ltb (written s.part b) (per_block s)) (lt-ltb 0 (written s.part b) l)
-    (lt-ltb (written s.part b) (per_block s) h)
+part_written_from s b l h = grind (arith, nat_tests)
 
 pub clean_in : (s : State) (b : ℕ) → is_clean s b ≡ true → written s.part b ≡ 0
 clean_in s b t = eqb-true (written s.part b) 0 t

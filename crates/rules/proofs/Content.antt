@@ -1,10 +1,13 @@
 -- What the flash pages hold after a program and after an erase.
 use Rattle.std.proofs.Common.{◌≡◌, ℕ, ◌+◌, ◌*◌, ◌/◌, ◌%◌, ◌<◌, true, false, ltb, List, [], ◌∷◌, ◌++◌, length, get_or, is_some, Some, unwrap_or, sym, refl, ap, ◌∙◌, subst, ⊎_elim, mul_comm, div-add-mod', arith}
 use Rattle.std.specs.List.{slice_get}
-use Rattle.std.proofs.lemmas.Option.{slice_get-get_or, slice_get_past}
-use Rattle.std.proofs.lemmas.List.{length_push, get_or_append_left, get_or_push, get_or_past}
-use Rattle.std.proofs.lemmas.Bool.{both_ways, cases_eq, cases_lt, lt-ltb, le-ltb, ltb-true}
+use Rattle.std.proofs.lemmas.Option.{slice_get-get_or}
+use Rattle.std.proofs.lemmas.List.{length_push, get_or_push, get_or_past}
+use Rattle.std.proofs.lemmas.Bool.{both_ways, cases_eq, cases_lt, le-ltb, ltb-true}
 use Rattle.std.proofs.lemmas.Nat.{div-mul-add, mod-mul-add, mod_below, mul-add-lt}
+use Rattle.std.proofs.lemmas.Bool.Decides.{nat_tests}
+use Rattle.std.proofs.lemmas.Grind.{common_steps}
+use Rattle.std.proofs.lemmas.Option.{slice_get_cases}
 use Rattle.flash.specs.Part.{Block, Part, Sound, no_block, block, written, appended, erased}
 use Rattle.flash.proofs.Keeps.{block_put, block_other}
 use Rattle.rules.specs.State.{Bytes, content, is_written}
@@ -14,17 +17,10 @@ pub nth_push : {X : Type 0} (xs : List X) (x : X) → slice_get (xs ++ x ∷ [])
 nth_push xs x = slice_get-get_or (xs ++ x ∷ []) (length xs) x (omega (arith, length_push xs x)) ∙ ap Some (get_or_push xs x x (length xs) refl)
 
 pub nth_before : {X : Type 0} (xs : List X) (x : X) (k : ℕ) → (k ≡ length xs → ⊥) → slice_get (xs ++ x ∷ []) k ≡ slice_get xs k
-nth_before xs x k ne =
-    ⊎_elim
-    (λ l. slice_get-get_or (xs ++ x ∷ []) k x (omega (arith, length_push xs x)) ∙ ap Some (get_or_append_left xs (x ∷ []) x k l)
-    ∙ sym (slice_get-get_or xs k x l))
-    (λ h. slice_get_past (xs ++ x ∷ []) k (omega (arith, length_push xs x)) ∙ sym (slice_get_past xs k h))
-    (cases_lt k (length xs))
+nth_before xs x k ne = grind (arith, common_steps, slice_get_cases xs k, slice_get_cases (xs ++ x ∷ []) k)
 
 pub nth_some : (xs : List Bytes) (k : ℕ) → is_some (slice_get xs k) ≡ ltb k (length xs)
-nth_some xs k =
-    ⊎_elim (λ l. ap is_some (slice_get-get_or xs k [] l) ∙ sym (lt-ltb k (length xs) l))
-    (λ h. ap is_some (slice_get_past xs k h) ∙ sym (le-ltb k (length xs) h)) (cases_lt k (length xs))
+nth_some xs k = grind (arith, nat_tests, slice_get_cases xs k)
 
 -- A flash page is written exactly if it has content.
 pub written_content : (p : Part) (q : ℕ) → is_some (content p q) ≡ is_written p q

@@ -1,7 +1,7 @@
 -- Which flash pages are in use.
 use Rattle.std.proofs.Common.{◌≡◌, ℕ, ◌<◌, ◌≤◌, true, false, eqb, ltb, ◌⊎◌, sym, ap, ◌∙◌, subst, inl, inr, ⊎_elim, arith}
 use Rattle.std.proofs.lemmas.Bool.{cases_eq, false_from_ne_true, eq-eqb, eqb-true, lt-ltb, ltb-true}
-use Rattle.rules.specs.State.{State, no_page, tally, host_pages, names, leads, reach, references, in_use, is_written}
+use Rattle.rules.specs.State.{State, no_page, tally, host_pages, names, reach, references, in_use, is_written}
 use Rattle.rules.specs.Making.{Agrees}
 use Rattle.rules.proofs.Tally.{tally_find, tally_pos, tally_same}
 use Rattle.rules.proofs.Namers.{leads_cases}
@@ -40,17 +40,11 @@ module _ (s : State) (few : host_pages s ≤ 4096) (a : Agrees s) where
   pub live_written : (q : ℕ) → q < no_page → in_use s q ≡ true → is_written s.part q ≡ true
   live_written q small live =
       let r = live_find s q live in
-      ⊎_elim (λ e. absurd (omega (arith, e, r.2)))
-      (λ k. ap (is_written s.part) (sym (k.1 ∙ r.2)) ∙ a.there k.0 (omega (arith, k.1, r.2)))
-      (reach_named r.0 r.1)
+      ⊎_elim (λ e. absurd (omega (arith, e, r.2))) (λ k. grind (arith, a.there k.0, k.1, r.2)) (reach_named r.0 r.1)
 
   -- A page that a namer names is in use.
   pub named_live : (k : ℕ) → names s k < no_page → (k < host_pages s) ⊎ (4096 ≤ k) → in_use s (names s k) ≡ true
-  named_live k small (inl l) =
-      live_from s k (names s k) l
-      (⊎_elim (λ low. low.1) (λ high. absurd (omega (arith, high.0))) (leads_cases (names s) (names s k)))
+  named_live k small (inl l) = live_from s k (names s k) l (grind (arith, leads_cases (names s) (names s k)))
   named_live k small (inr big) =
       let m = a.alive k big small in
-      live_from s m.0 (names s k) m.1
-      (ap (leads (names s)) m.2
-      ∙ ⊎_elim (λ low. absurd (omega (arith, low.0))) (λ high. high.1) (leads_cases (names s) k))
+      live_from s m.0 (names s k) m.1 (grind (arith, leads_cases (names s) k, m.2))
