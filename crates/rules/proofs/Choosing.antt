@@ -1,8 +1,9 @@
 -- Where the rules leave a choice, there is something to choose.
 use Rattle.std.proofs.Common.{◌≡◌, ℕ, zero, suc, ◌+◌, ◌*◌, ◌/◌, ◌%◌, ◌<◌, ◌≤◌, Bool, true, false, not, ◌&&◌, eqb, ltb, ◌⊎◌, List, [], ◌∷◌, length, set, is_some, Some, None, Option, sym, refl, ap, ◌∙◌, subst, inl, inr, ⊎_elim, arith}
 use Rattle.std.proofs.lemmas.List.{length-set}
-use Rattle.std.proofs.lemmas.Bool.{false_from_ne_true, cases_Bool, cases_lt, cases_eq, both_ways, eq-eqb, eqb-true, lt-ltb, ltb-true, and_parts, and_from}
+use Rattle.std.proofs.lemmas.Bool.{false_from_ne_true, cases_Bool, cases_lt, cases_eq, both_ways, eq-eqb, eqb-true, ltb-true, and_parts, and_from}
 use Rattle.std.proofs.lemmas.Nat.{div-mul-add, mod_below}
+use Rattle.std.proofs.lemmas.Bool.Decides.{nat_tests}
 use Rattle.flash.specs.Part.{written, erases}
 use Rattle.rules.specs.State.{Bytes, Entry, State, block_count, per_block, is_clean, is_closed, is_part_written, in_use_at, live_in}
 use Rattle.rules.specs.Tables.{moved_to}
@@ -118,10 +119,10 @@ candidate : State → ℕ → Bool
 candidate s b = (is_closed s b && ltb 0 (dead_in s b)) && ltb (erases s.part b) s.part.endurance
 
 collectable_is : (s : State) (b : ℕ) → b < block_count s → (is_closed s b && ltb 0 (dead_in s b)) ≡ true → Collectable s b
-collectable_is s b l t = let r = and_parts (is_closed s b) (ltb 0 (dead_in s b)) t in (l, r.0, ltb-true 0 (dead_in s b) r.1)
+collectable_is s b l t = (l, grind (arith, nat_tests), grind (arith, nat_tests))
 
 is_collectable : (s : State) (b : ℕ) → Collectable s b → (is_closed s b && ltb 0 (dead_in s b)) ≡ true
-is_collectable s b c = and_from (is_closed s b) (ltb 0 (dead_in s b)) c.1 (lt-ltb 0 (dead_in s b) c.2)
+is_collectable s b c = grind (arith, nat_tests, c.1, c.2)
 
 pub victim_or : (s : State) → ((v : ℕ) × Victim s v) ⊎ ((b : ℕ) → Candidate s b → ⊥)
 unfolding candidate
@@ -140,8 +141,7 @@ victim_or s =
   where
     is_candidate : (b : ℕ) → Candidate s b → ((is_closed s b && ltb 0 (dead_in s b)) && ltb (erases s.part b) s.part.endurance) ≡ true
     is_candidate b c =
-        and_from (is_closed s b && ltb 0 (dead_in s b)) (ltb (erases s.part b) s.part.endurance) (is_collectable s b c.0)
-        (lt-ltb (erases s.part b) s.part.endurance c.1)
+        grind (arith, nat_tests, is_collectable s b c.0, c.1)
 
 pub collectable_or : (s : State) → ((b : ℕ) × Collectable s b) ⊎ ((b : ℕ) → Collectable s b → ⊥)
 unfolding collectable

@@ -23,14 +23,8 @@ entered_length hot store new heat after en =
 pub entered_entry : (store after : List (Option Entry)) (new : Entry) (p : ℕ) → p < length store → after ≡ set store p (Some new)
     → (k : ℕ) (e : Entry) → entry_at after k ≡ Some e → ((k ≡ p) × (e ≡ new)) ⊎ ((k ≡ p → ⊥) × (entry_at store k ≡ Some e))
 entered_entry store after new p l is k e has =
-    ⊎_elim
-    (λ same. inl (
-      same,
-      let r : entry_at after k ≡ Some new = ap (λ (y : List (Option Entry)). entry_at y k) is ∙ ap (entry_at (set store p (Some new))) same
-          ∙ get_or-set_same store p (Some new) None l in cc,
-    ))
-    (λ ne. inr (ne, sym (ap (λ (y : List (Option Entry)). entry_at y k) is ∙ get_or-set_other store p k (Some new) None ne) ∙ has))
-    (cases_eq k p)
+    ⊎_elim (λ same. inl (same, cc (get_or-set_same store p (Some new) None l)))
+    (λ ne. inr (ne, cc (get_or-set_other store p k (Some new) None ne))) (cases_eq k p)
 
 -- No two entries have equal content, before a new one came and after, if none offered its content before. `has` is what the
 -- flash pages hold.

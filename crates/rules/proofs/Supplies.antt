@@ -1,5 +1,5 @@
 -- A state that stands has what the rules need.
-use Rattle.std.proofs.Common.{◌≡◌, ℕ, zero, suc, ◌+◌, ◌-◌, ◌*◌, ◌/◌, ◌%◌, ◌<◌, ◌≤◌, Bool, true, false, cond, not, ◌&&◌, eqb, ltb, List, [], ◌∷◌, length, Some, None, Option, sym, refl, ap, ◌∙◌, inl, inr, ⊎_elim, add-suc, suc-mul, div-add-mod', arith}
+use Rattle.std.proofs.Common.{◌≡◌, ℕ, zero, suc, ◌+◌, ◌-◌, ◌*◌, ◌/◌, ◌%◌, ◌<◌, ◌≤◌, Bool, true, false, not, ◌&&◌, eqb, ltb, List, [], ◌∷◌, length, Some, None, Option, sym, refl, ap, ◌∙◌, inl, inr, ⊎_elim, add-suc, suc-mul, div-add-mod', arith}
 use Rattle.std.proofs.lemmas.List.{get_or_past}
 use Rattle.std.proofs.lemmas.Bool.{false_from_ne_true, cases_eq, cases_lt, cases_Bool, eq-eqb, eqb-true, lt-ltb, ltb-true, and_parts, both_ways}
 use Rattle.std.proofs.lemmas.Nat.{div-mul-add, mod-mul-add, div_below, mod_below}
@@ -119,8 +119,7 @@ module _ (print : Bytes → ℕ) (s : State) (h : Stands print s) where
 distinct_apart : (xs : List ℕ) → Apart xs → distinct xs ≡ length xs
 distinct_apart [] a = refl
 distinct_apart (x ∷ xs) a =
-    ap (λ t. cond t (distinct xs) (distinct xs + 1)) (false_from_ne_true (stands_in x xs) (λ t. a.0 (stands_in_find x xs t)))
-    ∙ omega (arith, distinct_apart xs a.1)
+    grind (arith, false_from_ne_true (stands_in x xs) (λ t. a.0 (stands_in_find x xs t)), distinct_apart xs a.1)
 
 -- What the first n shared entries hold.
 entries : State → ℕ → List ℕ

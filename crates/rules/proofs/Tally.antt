@@ -38,9 +38,7 @@ tally_find f (suc n) h =
 pub tally_pos : (f : ℕ → Bool) (n k : ℕ) → k < n → f k ≡ true → 0 < tally f n
 tally_pos f zero k h t = absurd (omega arith)
 tally_pos f (suc n) k h t =
-    ⊎_elim (λ e. omega (arith, one_true (f n) (ap f (sym e) ∙ t)))
-    (λ ne. omega (arith, tally_pos f n k (omega arith) t))
-    (cases_eq k n)
+    ⊎_elim (λ e. omega (arith, one_true (f n) (ap f (sym e) ∙ t))) (λ ne. omega (arith, tally_pos f n k (omega arith) t)) (cases_eq k n)
 
 pub tally_none : (f : ℕ → Bool) (n : ℕ) → ((k : ℕ) → k < n → f k ≡ false) → tally f n ≡ 0
 tally_none f zero h = refl
@@ -61,30 +59,18 @@ tally_at f g (suc n) k h same =
 -- What passes one test or the other.
 pub tally_not : (f : ℕ → Bool) (n : ℕ) → tally f n + tally (λ k. not (f k)) n ≡ n
 tally_not f zero = refl
-tally_not f (suc n) =
-    ⊎_elim (λ t. omega (arith, tally_not f n, one_true (f n) t, one_false (not (f n)) (ap not t)))
-    (λ t. omega (arith, tally_not f n, one_false (f n) t, one_true (not (f n)) (ap not t)))
-    (cases_Bool (f n))
+tally_not f (suc n) = grind (arith, tally_not f n, cases_Bool (f n))
 
 -- What passes a weaker test counts at least as much.
 pub tally_mono : (f g : ℕ → Bool) (n : ℕ) → ((k : ℕ) → k < n → f k ≡ true → g k ≡ true) → tally f n ≤ tally g n
 tally_mono f g zero h = omega arith
 tally_mono f g (suc n) h =
-    let r = tally_mono f g n (λ k l. h k (omega arith)) in
-    ⊎_elim (λ t. omega (arith, r, one_true (f n) t, one_true (g n) (h n (omega arith) t)))
-    (λ t. omega (arith, r, one_false (f n) t))
-    (cases_Bool (f n))
+    grind (arith, tally_mono f g n (λ k l. h k (omega arith)), cases_Bool (f n), h n (omega arith))
 
 -- Two tests with no number in common below n: what passes both together.
 pub tally_split : (f g : ℕ → Bool) (n : ℕ) → tally (λ k. f k && g k) n + tally (λ k. f k && not (g k)) n ≡ tally f n
 tally_split f g zero = refl
-tally_split f g (suc n) = omega (arith, tally_split f g n, split_one (f n) (g n))
-  where
-    split_one : (a b : Bool) → cond (a && b) 1 0 + cond (a && not b) 1 0 ≡ cond a 1 0
-    split_one true true = refl
-    split_one true false = refl
-    split_one false true = refl
-    split_one false false = refl
+tally_split f g (suc n) = grind (arith, tally_split f g n, cases_Bool (f n), cases_Bool (g n))
 
 -- The test without the number b.
 abbrev besides : (ℕ → Bool) → ℕ → ℕ → Bool
