@@ -20,6 +20,13 @@ put_other f k v j ne = ap (λ t. cond t v (f j)) (ne_eqb j k ne)
 pub put_cases : (f : ℕ → ℕ) (k v j : ℕ) → ((j ≡ k) × (put f k v j ≡ v)) ⊎ ((j ≡ k → ⊥) × (put f k v j ≡ f j))
 put_cases f k v j = by_eq j k v (f j)
 
+-- What it holds after two of them.
+pub put_twice_cases : (f : ℕ → ℕ) (n v k w j : ℕ) → ((j ≡ k) × (put (put f n v) k w j ≡ w))
+    ⊎ (((j ≡ n) × (put (put f n v) k w j ≡ v)) ⊎ ((j ≡ k → ⊥) × (j ≡ n → ⊥) × (put (put f n v) k w j ≡ f j)))
+put_twice_cases f n v k w j =
+    ⊎_elim (λ h. inl h) (λ h. ⊎_elim (λ g. inr (inl (g.0, h.1 ∙ g.1))) (λ g. inr (inr (h.0, g.0, h.1 ∙ g.1))) (put_cases f n v j))
+    (put_cases (put f n v) k w j)
+
 -- Agreement but for the one namer x, which may name a page without being named.
 pub record AgreeBut (f : ℕ → ℕ) (is_written : ℕ → Bool) (host x : ℕ) : Type 0 where
   pub used : (n : ℕ) → n < 4096 → 4096 ≤ f n → f (f n) < no_page
@@ -58,28 +65,21 @@ module _ (f : ℕ → ℕ) (is_written : ℕ → Bool) (host : ℕ) (few : host 
       → Agree (put (put f n k) k (f n)) is_written host
   lift_put n k l direct big free = record {
     used = λ m m_host wide.
-        let p = both m in let q = both (put (put f n k) k (f n) m) in grind (arith, p, q, a.used m m_host);
-    flat = λ j wide. let p = both j in grind (arith, p, a.flat j wide);
+        let p = put_twice_cases f n k k (f n) m in let q = put_twice_cases f n k k (f n) (put (put f n k) k (f n) m) in grind (arith, p, q, a.used m m_host);
+    flat = λ j wide. let p = put_twice_cases f n k k (f n) j in grind (arith, p, a.flat j wide);
     once = λ i j small e.
-        let p = both i in let q = both j in
+        let p = put_twice_cases f n k k (f n) i in let q = put_twice_cases f n k k (f n) j in
         grind (arith, p, q, a.once i j, a.once i n, a.once n j, a.once j n);
-    there = λ j small. let p = both j in grind (arith, p, a.there n, a.there j);
+    there = λ j small. let p = put_twice_cases f n k k (f n) j in grind (arith, p, a.there n, a.there j);
     alive = λ j wide small.
         ⊎_elim (λ h. (n, l, named h))
         (⊎_elim (λ h. absurd (omega (arith, h.0)))
         (λ h. let r = a.alive j wide (subst (λ v. v < no_page) h.2 small) in
         let m_ne_n : r.0 ≡ n → ⊥ = λ e. absurd (omega (arith, r.2, ap f e)) in
         let m_ne_k : r.0 ≡ k → ⊥ = λ e. absurd (omega (arith, r.1)) in
-        (r.0, r.1, put_other (put f n k) k (f n) r.0 m_ne_k ∙ put_other f n k r.0 m_ne_n ∙ r.2))) (both j);
+        (r.0, r.1, put_other (put f n k) k (f n) r.0 m_ne_k ∙ put_other f n k r.0 m_ne_n ∙ r.2))) (put_twice_cases f n k k (f n) j);
   }
     where
-      both : (j : ℕ) → ((j ≡ k) × (put (put f n k) k (f n) j ≡ f n))
-          ⊎ (((j ≡ n) × (put (put f n k) k (f n) j ≡ k)) ⊎ ((j ≡ k → ⊥) × (j ≡ n → ⊥) × (put (put f n k) k (f n) j ≡ f j)))
-      both j =
-          ⊎_elim (λ h. inl h)
-          (λ h. ⊎_elim (λ g. inr (inl (g.0, h.1 ∙ g.1))) (λ g. inr (inr (h.0, g.0, h.1 ∙ g.1))) (put_cases f n k j))
-          (put_cases (put f n k) k (f n) j)
-
       named : {j : ℕ} → (j ≡ k) × (put (put f n k) k (f n) j ≡ f n) → put (put f n k) k (f n) n ≡ j
       named h = put_other (put f n k) k (f n) n (λ e. absurd (omega arith)) ∙ put_same f n k ∙ sym h.0
 

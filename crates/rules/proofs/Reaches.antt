@@ -1,11 +1,10 @@
 -- Which flash page a host page's word reaches after a small change of the namers.
-use Rattle.std.proofs.Common.{◌≡◌, ℕ, ◌<◌, ◌≤◌, Bool, cond, eqb, sym, ap, ◌∙◌, subst, ⊎_elim, arith}
-use Rattle.std.proofs.lemmas.Bool.{cases_eq}
+use Rattle.std.proofs.Common.{◌≡◌, ℕ, ◌<◌, ◌≤◌, Bool, cond, eqb, ap, ◌∙◌, arith}
 use Rattle.rules.specs.State.{no_page, leads}
 use Rattle.rules.specs.Tables.{renamed}
 use Rattle.rules.specs.Making.{Agree}
 use Rattle.rules.proofs.Cases.{by_eq}
-use Rattle.rules.proofs.Namers.{put, put_same, put_other, renamed_cases, leads_cases, merged_names, merged_cases, merged_word_cases, merged_entry_cases}
+use Rattle.rules.proofs.Namers.{put, put_same, put_other, put_twice_cases, renamed_cases, leads_cases, merged_names, merged_cases, merged_word_cases, merged_entry_cases}
 
 -- The page that word n reaches.
 abbrev pub goes : (ℕ → ℕ) → ℕ → ℕ
@@ -35,21 +34,15 @@ goes_freed f x m big l free =
 pub goes_lifted : (f : ℕ → ℕ) (is_written : ℕ → Bool) (host n k m : ℕ) → Agree f is_written host → n < 4096 → 4096 ≤ k → m < 4096
     → f n < no_page → f k ≡ no_page → goes (put (put f n k) k (f n)) m ≡ goes f m
 goes_lifted f is_written host n k m a l big l' direct free =
-    ⊎_elim (λ e. subst (λ i. goes g i ≡ goes f i) (sym e) here)
-    (λ ne. ap (leads g) (put_other (put f n k) k (f n) m (λ e. absurd (omega arith)) ∙ put_other f n k m ne)
-    ∙ leads_same g f (f m) (λ wide. put_other (put f n k) k (f n) (f m) (λ e. absurd (omega (arith, a.used m l' wide, ap f e)))
-    ∙ put_other f n k (f m) (λ e. absurd (omega arith))))
-    (cases_eq m n)
-  where
-    g : ℕ → ℕ
-    g = put (put f n k) k (f n)
-
-    at_n : g n ≡ k
-    at_n = put_other (put f n k) k (f n) n (λ e. absurd (omega arith)) ∙ put_same f n k
-
-    here : goes g n ≡ goes f n
-    here = let p = leads_cases g k in let q = leads_cases f (f n) in let s = put_same (put f n k) k (f n) in
-        ap (leads g) at_n ∙ (grind (arith, p, q, s))
+    grind (
+      arith,
+      put_twice_cases f n k k (f n) m,
+      put_twice_cases f n k k (f n) (f m),
+      put_twice_cases f n k k (f n) k,
+      leads_cases f (f m),
+      leads_cases (put (put f n k) k (f n)) (put (put f n k) k (f n) m),
+      a.used m l',
+    )
 
 -- Page q is renamed q'.
 pub goes_renamed : (f : ℕ → ℕ) (q q' n : ℕ) → q < no_page → q' < no_page

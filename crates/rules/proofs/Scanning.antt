@@ -3,7 +3,7 @@ use Rattle.std.proofs.Common.{◌≡◌, ℕ, zero, suc, ◌+◌, ◌<◌, false
 use mathlib.Core.Path.{fun_ext}
 use Rattle.std.proofs.lemmas.List.{length-map}
 use Rattle.std.proofs.lemmas.Bool.{cases_eq, eq-eqb, ne_eqb}
-use Rattle.rules.specs.State.{Bytes, State, no_page, flash_pages, host_pages, names, leads, reach, content, in_use, is_written, live_pages, held}
+use Rattle.rules.specs.State.{Bytes, State, no_page, flash_pages, host_pages, names, leads, reach, in_use, is_written, live_pages, held}
 use Rattle.rules.specs.Tables.{without, EntryFor, lifted, merged}
 use Rattle.rules.specs.Calls.{Copies, Merges}
 use Rattle.rules.specs.Making.{Agree, Agrees}
@@ -72,8 +72,7 @@ module _ (print : Bytes → ℕ) (s : State) (i j e : ℕ) (h : Mid print s) (ap
 
   pub merged_held : (n : ℕ) → n < host_pages s → held t n ≡ held s n
   merged_held n l =
-      ⊎_elim (λ r. ap (content s.part) r.1 ∙ copies.4 ∙ ap (content s.part) (sym r.0))
-      (λ r. ap (content s.part) r.1) (merged_reach n l)
+      grind (arith, merged_reach n l, copies.4)
 
   copy_dead : in_use t j ≡ false
   copy_dead = live_not t j (λ n l is.
