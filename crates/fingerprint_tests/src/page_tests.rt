@@ -1,3 +1,5 @@
+ghost use Rattle.std.specs.Prelude.{◌<◌};
+
 use page::equal;
 use std::array;
 
@@ -11,27 +13,21 @@ fn a_page_equals_its_copy(rt: HostRuntime) {
 #[test]
 fn first_byte_differs(rt: HostRuntime) {
     let page = [9; 256];
-    let mut other = page;
-    other[0] = 8;
-    assert!(rt; !equal(&page, &other));
+    assert!(rt; !equal(&page, &with_byte(page, 0, 8)));
 }
 
 #[test]
 fn last_byte_differs(rt: HostRuntime) {
     let page = [9; 256];
-    let mut other = page;
-    other[255] = 8;
-    assert!(rt; !equal(&page, &other));
+    assert!(rt; !equal(&page, &with_byte(page, 255, 8)));
 }
 
 // Each place in turn is the only one that differs.
 #[test]
 fn each_byte_counts(rt: HostRuntime) {
     let page = [0; 256];
-    for i in 0..256 {
-        let mut other = page;
-        other[i] = 128;
-        assert!(rt; !equal(&page, &other));
+    for place in 0..256 {
+        assert!(rt; !equal(&page, &with_byte(page, place, 128)));
     }
 }
 
@@ -42,4 +38,13 @@ fn pages_with_one_fingerprint(rt: HostRuntime) {
     let mut two_full = zeros;
     two_full[..2].fill(255);
     assert!(rt; !equal(&zeros, &two_full));
+}
+
+// The page with another byte at the place.
+fn with_byte(page: [u8; 256], place: usize, byte: u8) -> [u8; 256]
+    requires { place < 256 }
+{
+    let mut other = page;
+    other[place] = byte;
+    other
 }
