@@ -1,8 +1,7 @@
 // The window itself. It adds to the block number, and checks that the block is one it shows.
-ghost use Rattle.std.specs.Prelude.{◌≡◌, ◌+◌};
-ghost use Rattle.flash.specs.Part.{content, appended, erased};
+ghost use Rattle.std.specs.Prelude.{◌≡◌, ◌+◌, ◌≤◌, length};
+ghost use Rattle.flash.specs.Part.{Sound, content, appended, erased};
 ghost use Rattle.flash.specs.Answers.{program_answer, read_answer, erase_answer, either};
-ghost use Rattle.window.specs.Shown.{window_of, Beneath};
 
 use flash::{Flash, Refusal};
 
@@ -14,6 +13,8 @@ pub struct Window<F> {
 }
 
 impl<F: Flash> Window<F> {
+    ghost use Rattle.window.specs.Shown.{shown, Beneath};
+
     // Hides the first `hidden` blocks of the part and shows the next `count`, as far as they exist.
     pub fn new(below: F, hidden: usize, count: usize) -> Self
         ensures below { result.below ≡ below }
@@ -31,39 +32,36 @@ impl<F: Flash> Window<F> {
     pub fn into_below(self) -> F
         ensures value { result ≡ self.below }
     {
-        let Window {
-            below,
-            hidden: _,
-            count: _,
-        } = self;
-        below
+        self.below
     }
 
-    // The block's number below, if it is shown.
-    fn beneath(&self, block: usize) -> Option<usize>
-        ensures found { Beneath (F.Flash.shows self.now.below) self.now.hidden self.now.count block result }
+    // How many blocks it shows.
+    fn shown_blocks(&self) -> usize
+        ensures value { result ≡ length (shown F.shows self.now).blocks }
+        ensures sound { Sound (shown F.shows self.now) }
+        ensures fits { self.now.hidden + result ≤ usize.MAX }
     {
-        let shown = self
-            .below
-            .blocks()
-            .saturating_sub(self.hidden)
-            .min(self.count);
-        if block < shown {
-            Some(self.hidden + block)
-        } else {
-            None
-        }
-    }
-}
-
-impl<F: Flash> Flash for Window<F> {
-    ghost shows = { λ w. window_of (F.Flash.shows w.below) w.hidden w.count };
-
-    fn blocks(&self) -> usize {
         self.below
             .blocks()
             .saturating_sub(self.hidden)
             .min(self.count)
+    }
+
+    // The block's number below, if it is shown.
+    fn beneath(&self, block: usize) -> Option<usize>
+        ensures found { Beneath (shown F.shows self.now) self.now.hidden block result }
+    {
+        (block < self.shown_blocks()).then(|| self.hidden + block)
+    }
+}
+
+impl<F: Flash> Flash for Window<F> {
+    ghost use Rattle.window.specs.Shown.{shown};
+
+    ghost shows = { shown F.shows };
+
+    fn blocks(&self) -> usize {
+        self.shown_blocks()
     }
 
     fn pages_per_block(&self) -> usize {
@@ -75,58 +73,47 @@ impl<F: Flash> Flash for Window<F> {
     }
 
     fn written(&self, block: usize) -> usize {
-        match self.beneath(block) {
-            Some(under) => self.below.written(under),
-            None => 0,
-        }
+        self.beneath(block)
+            .map_or(0, |under| self.below.written(under))
     }
 
     fn erases(&self, block: usize) -> u32 {
-        match self.beneath(block) {
-            Some(under) => self.below.erases(under),
-            None => 0,
-        }
+        self.beneath(block)
+            .map_or(0, |under| self.below.erases(under))
     }
 
-    // `below` says what the hidden blocks are afterwards: untouched, as only the one block below changes. `hidden` and `count` say
-    // that no call, and no refusal, moves the window.
+    // `stays` says that no call, and no refusal, moves the window. `below` says what the hidden blocks are afterwards: untouched,
+    // as only the one block below changes.
+    #[tactic(auto, using(crate::proofs::Seen::seen_appended))]
     fn program(&mut self, block: usize, page: usize, bytes: &[u8; 256]) -> Result<(), Refusal>
-        ensures answer { result ≡ program_answer (window_of (F.Flash.shows self.old.below) self.old.hidden self.old.count) block page }
-        ensures after { window_of (F.Flash.shows self.new.below) self.new.hidden self.new.count ≡ either result (appended (window_of (F.Flash.shows self.old.below) self.old.hidden self.old.count) block bytes.now) (window_of (F.Flash.shows self.old.below) self.old.hidden self.old.count) }
-        ensures below { F.Flash.shows self.new.below ≡ either result (appended (F.Flash.shows self.old.below) (self.old.hidden + block) bytes.now) (F.Flash.shows self.old.below) }
-        ensures hidden { self.new.hidden ≡ self.old.hidden }
-        ensures count { self.new.count ≡ self.old.count }
+        ensures answer { result ≡ program_answer (shown F.shows self.old) block page }
+        ensures after { shown F.shows self.new ≡ either result (appended (shown F.shows self.old) block bytes.now) (shown F.shows self.old) }
+        ensures stays { self.new ≡ record self.old { below = self.new.below } }
+        ensures below { F.shows self.new.below ≡ either result (appended (F.shows self.old.below) (self.old.hidden + block) bytes.now) (F.shows self.old.below) }
     {
-        match self.beneath(block) {
-            Some(under) => self.below.program(under, page, bytes),
-            None => Err(Refusal::NoSuchPage),
-        }
+        let under = self.beneath(block).ok_or(Refusal::NoSuchPage)?;
+        self.below.program(under, page, bytes)
     }
 
     fn read(&mut self, block: usize, page: usize, buffer: &mut [u8; 256]) -> Result<(), Refusal>
-        ensures answer { result ≡ read_answer (window_of (F.Flash.shows self.old.below) self.old.hidden self.old.count) block page }
-        ensures buffer { buffer.new ≡ either result (content (window_of (F.Flash.shows self.old.below) self.old.hidden self.old.count) block page) buffer.old }
-        ensures after { window_of (F.Flash.shows self.new.below) self.new.hidden self.new.count ≡ window_of (F.Flash.shows self.old.below) self.old.hidden self.old.count }
-        ensures below { F.Flash.shows self.new.below ≡ F.Flash.shows self.old.below }
-        ensures hidden { self.new.hidden ≡ self.old.hidden }
-        ensures count { self.new.count ≡ self.old.count }
+        ensures answer { result ≡ read_answer (shown F.shows self.old) block page }
+        ensures buffer { buffer.new ≡ either result (content (shown F.shows self.old) block page) buffer.old }
+        ensures after { shown F.shows self.new ≡ shown F.shows self.old }
+        ensures stays { self.new ≡ record self.old { below = self.new.below } }
+        ensures below { F.shows self.new.below ≡ F.shows self.old.below }
     {
-        match self.beneath(block) {
-            Some(under) => self.below.read(under, page, buffer),
-            None => Err(Refusal::NoSuchPage),
-        }
+        let under = self.beneath(block).ok_or(Refusal::NoSuchPage)?;
+        self.below.read(under, page, buffer)
     }
 
+    #[tactic(auto, using(crate::proofs::Seen::seen_erased))]
     fn erase(&mut self, block: usize) -> Result<(), Refusal>
-        ensures answer { result ≡ erase_answer (window_of (F.Flash.shows self.old.below) self.old.hidden self.old.count) block }
-        ensures after { window_of (F.Flash.shows self.new.below) self.new.hidden self.new.count ≡ either result (erased (window_of (F.Flash.shows self.old.below) self.old.hidden self.old.count) block) (window_of (F.Flash.shows self.old.below) self.old.hidden self.old.count) }
-        ensures below { F.Flash.shows self.new.below ≡ either result (erased (F.Flash.shows self.old.below) (self.old.hidden + block)) (F.Flash.shows self.old.below) }
-        ensures hidden { self.new.hidden ≡ self.old.hidden }
-        ensures count { self.new.count ≡ self.old.count }
+        ensures answer { result ≡ erase_answer (shown F.shows self.old) block }
+        ensures after { shown F.shows self.new ≡ either result (erased (shown F.shows self.old) block) (shown F.shows self.old) }
+        ensures stays { self.new ≡ record self.old { below = self.new.below } }
+        ensures below { F.shows self.new.below ≡ either result (erased (F.shows self.old.below) (self.old.hidden + block)) (F.shows self.old.below) }
     {
-        match self.beneath(block) {
-            Some(under) => self.below.erase(under),
-            None => Err(Refusal::NoSuchPage),
-        }
+        let under = self.beneath(block).ok_or(Refusal::NoSuchPage)?;
+        self.below.erase(under)
     }
 }
