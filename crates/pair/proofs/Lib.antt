@@ -1,3 +1,2 @@
-pub mod Seen
+pub mod Calls
 pub mod Sides
-pub mod Untouched

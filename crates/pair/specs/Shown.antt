@@ -1,10 +1,10 @@
 -- What a pair shows of its two parts.
-use Rattle.std.specs.Prelude.{◌≡◌, ℕ, ◌+◌, ◌<◌, ◌≤◌, min, cond, List, [], ◌++◌, map, length, take, Err, ◌==◌, nat_lt}
-use Rattle.flash.specs.declared.refusal.Refusal.TheVariants.{WornOut}
-use Rattle.flash.specs.Part.{Block, Part, erases}
-use Rattle.flash.specs.Answers.{Answer, erase_answer, either}
+use Rattle.std.specs.Prelude.{◌≡◌, ℕ, ◌+◌, ◌<◌, ◌≤◌, min, cond, List, [], ◌++◌, map, length, take, Option, Some, None, ◌==◌, nat_lt}
+use Rattle.flash.specs.Part.{Block, Part}
+use Rattle.flash.specs.Answers.{Answer, either}
+use Rattle.pair.specs.declared.pair.Pair.{Pair}
 use Rattle.pair.specs.declared.place.Place.{Place}
-use Rattle.pair.specs.declared.place.Place.TheVariants.{First, Second, Nowhere}
+use Rattle.pair.specs.declared.place.Place.TheVariants.{First, Second}
 
 -- A block under an endurance that may be lower than its part's: a higher erase count shows as that endurance.
 abbrev pub lowered : ℕ → Block → Block
@@ -19,26 +19,26 @@ abbrev pub lesser : Part → Part → ℕ
 lesser p q = min p.endurance q.endurance
 
 -- The pair of p and q: the blocks of p, then those of q that count, the first 255 of them, under the smaller endurance.
-abbrev pub pair_of : Part → Part → Part
+unfoldable pub pair_of : Part → Part → Part
 pair_of p q = record {
   blocks = take 255 (map (lowered (lesser p q)) (p.blocks ++ counted p q));
   per_block = p.per_block;
   endurance = lesser p q;
 }
 
+-- What a pair shows, where `first` and `second` say what its two parts show.
+abbrev pub shown : {F G : Type 0} → (F → Part) → (G → Part) → Pair F G → Part
+shown first second w = pair_of (first w.first) (second w.second)
+
 -- How many blocks the pair shows.
 abbrev pub shown_count : Part → Part → ℕ
 shown_count p q = min (length p.blocks + length (counted p q)) 255
 
--- Where block b of the pair stands: under its own number in p, or after the blocks of p in q, or nowhere.
-abbrev pub Stands : Part → Part → ℕ → Place → Type 0
-Stands p q b (First c) = (b < 255) × (b < length p.blocks) × (c ≡ b)
-Stands p q b (Second c) = (b < 255) × (c < length (counted p q)) × (b ≡ length p.blocks + c)
-Stands p q b Nowhere = length (pair_of p q).blocks ≤ b
-
--- The answer to an erase of block b under an endurance that may be lower than the part's own.
-abbrev pub lowered_answer : Part → ℕ → ℕ → Answer
-lowered_answer p b endurance = cond (nat_lt (erases p b) endurance) (erase_answer p b) (Err WornOut)
+-- Where block b of the pair stands: under its own number in p, or after the blocks of p in q; none for a block that is not shown.
+abbrev pub Stands : Part → Part → ℕ → Option Place → Type 0
+Stands p q b (Some (First c)) = (b < 255) × (b < length p.blocks) × (c ≡ b)
+Stands p q b (Some (Second c)) = (b < 255) × (c < length (counted p q)) × (b ≡ length p.blocks + c)
+Stands p q b None = length (pair_of p q).blocks ≤ b
 
 -- The first part after a call on block b that was answered r, if an accepted call on a block of its own leaves `new`. Only a
 -- block of its own can change it.

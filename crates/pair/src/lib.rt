@@ -1,7 +1,6 @@
 // Two parts as one: the blocks of the first, then those of the second.
 #![tactic(auto)]
 
-mod lowered;
 mod pair;
 mod place;
 

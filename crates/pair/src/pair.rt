@@ -2,14 +2,9 @@
 ghost use Rattle.std.specs.Prelude.{◌≡◌, ◌-◌, length};
 ghost use Rattle.flash.specs.Part.{Sound, content, appended, erased};
 ghost use Rattle.flash.specs.Answers.{program_answer, read_answer, erase_answer, either};
-ghost use Rattle.pair.specs.Shown.{pair_of, counted, shown_count, Stands, first_after, second_after};
 
-use crate::lowered::{erase_within, erases_within};
 use crate::place::Place;
-use flash::{Flash, Refusal};
-
-// The most blocks that a pair shows.
-const MOST_BLOCKS: usize = 255;
+use flash::{Flash, MOST_BLOCKS, Refusal};
 
 #[derive(Drop)]
 pub struct Pair<F, G> {
@@ -18,6 +13,8 @@ pub struct Pair<F, G> {
 }
 
 impl<F: Flash, G: Flash> Pair<F, G> {
+    ghost use Rattle.pair.specs.Shown.{counted, shown_count, Stands};
+
     // Shows the blocks of `first`, then those of `second`, up to 255 in all.
     pub fn new(first: F, second: G) -> Self
         ensures first { result.first ≡ first }
@@ -31,27 +28,27 @@ impl<F: Flash, G: Flash> Pair<F, G> {
         ensures first { result.0 ≡ self.first }
         ensures second { result.1 ≡ self.second }
     {
-        let Pair { first, second } = self;
-        (first, second)
+        (self.first, self.second)
     }
 
     // How many blocks of the second part count: none if its blocks have another number of pages.
     fn counted_blocks(&self) -> usize
-        ensures value { result ≡ length (counted (F.Flash.shows self.now.first) (G.Flash.shows self.now.second)) }
-        ensures sound { Sound (G.Flash.shows self.now.second) }
+        ensures value { result ≡ length (counted (F.shows self.now.first) (G.shows self.now.second)) }
+        ensures sound { Sound (G.shows self.now.second) }
     {
         let blocks = self.second.blocks();
         if self.first.pages_per_block() == self.second.pages_per_block() {
-            return blocks;
+            blocks
+        } else {
+            0
         }
-        0
     }
 
     // How many blocks the pair shows.
     fn shown_blocks(&self) -> usize
-        ensures value { result ≡ shown_count (F.Flash.shows self.now.first) (G.Flash.shows self.now.second) }
-        ensures first { Sound (F.Flash.shows self.now.first) }
-        ensures second { Sound (G.Flash.shows self.now.second) }
+        ensures value { result ≡ shown_count (F.shows self.now.first) (G.shows self.now.second) }
+        ensures first { Sound (F.shows self.now.first) }
+        ensures second { Sound (G.shows self.now.second) }
     {
         self.first
             .blocks()
@@ -59,92 +56,103 @@ impl<F: Flash, G: Flash> Pair<F, G> {
             .min(MOST_BLOCKS)
     }
 
-    // Where the block stands.
-    fn place(&self, block: usize) -> Place
-        ensures found { Stands (F.Flash.shows self.now.first) (G.Flash.shows self.now.second) block result }
+    // Where the block stands, if the pair shows it.
+    #[tactic(auto, using(crate::proofs::Sides::pair_count))]
+    fn place(&self, block: usize) -> Option<Place>
+        ensures found { Stands (F.shows self.now.first) (G.shows self.now.second) block result }
     {
         let shown = self.shown_blocks();
         let before = self.first.blocks();
         if block >= shown {
-            return Place::Nowhere;
+            None
+        } else if block < before {
+            Some(Place::First(block))
+        } else {
+            Some(Place::Second(block - before))
         }
-        if block < before {
-            return Place::First(block);
-        }
-        Place::Second(block - before)
     }
 }
 
 impl<F: Flash, G: Flash> Flash for Pair<F, G> {
-    ghost shows = { λ w. pair_of (F.Flash.shows w.first) (G.Flash.shows w.second) };
+    ghost use Rattle.pair.specs.Shown.{shown, first_after, second_after};
 
+    ghost shows = { shown F.shows G.shows };
+
+    #[tactic(auto, using(crate::proofs::Sides::pair_count, crate::proofs::Sides::pair_sound))]
     fn blocks(&self) -> usize {
         self.shown_blocks()
     }
 
+    #[tactic(auto, using(crate::proofs::Sides::pair_per_block))]
     fn pages_per_block(&self) -> usize {
         self.first.pages_per_block()
     }
 
+    #[tactic(auto, using(crate::proofs::Sides::pair_endurance))]
     fn endurance(&self) -> u32 {
         self.first.endurance().min(self.second.endurance())
     }
 
+    #[tactic(auto, using(crate::proofs::Calls::query_steps))]
     fn written(&self, block: usize) -> usize {
         match self.place(block) {
-            Place::First(under) => self.first.written(under),
-            Place::Second(under) => self.second.written(under),
-            Place::Nowhere => 0,
+            Some(Place::First(under)) => self.first.written(under),
+            Some(Place::Second(under)) => self.second.written(under),
+            None => 0,
         }
     }
 
+    #[tactic(auto, using(crate::proofs::Calls::query_steps))]
     fn erases(&self, block: usize) -> u32 {
         match self.place(block) {
-            Place::First(under) => erases_within(&self.first, under, self.endurance()),
-            Place::Second(under) => erases_within(&self.second, under, self.endurance()),
-            Place::Nowhere => 0,
+            Some(Place::First(under)) => self.first.erases(under).min(self.endurance()),
+            Some(Place::Second(under)) => self.second.erases(under).min(self.endurance()),
+            None => 0,
         }
     }
 
     // `first` and `second` say what the two parts show afterwards, also of blocks that the pair does not show: only the one block's part changes.
+    #[tactic(auto, using(crate::proofs::Calls::page_steps))]
     fn program(&mut self, block: usize, page: usize, bytes: &[u8; 256]) -> Result<(), Refusal>
-        ensures answer { result ≡ program_answer (pair_of (F.Flash.shows self.old.first) (G.Flash.shows self.old.second)) block page }
-        ensures after { pair_of (F.Flash.shows self.new.first) (G.Flash.shows self.new.second) ≡ either result (appended (pair_of (F.Flash.shows self.old.first) (G.Flash.shows self.old.second)) block bytes.now) (pair_of (F.Flash.shows self.old.first) (G.Flash.shows self.old.second)) }
-        ensures first { F.Flash.shows self.new.first ≡ first_after (F.Flash.shows self.old.first) block result (appended (F.Flash.shows self.old.first) block bytes.now) }
-        ensures second { G.Flash.shows self.new.second ≡ second_after (F.Flash.shows self.old.first) (G.Flash.shows self.old.second) block result (appended (G.Flash.shows self.old.second) (block - length (F.Flash.shows self.old.first).blocks) bytes.now) }
+        ensures answer { result ≡ program_answer (shown F.shows G.shows self.old) block page }
+        ensures after { shown F.shows G.shows self.new ≡ either result (appended (shown F.shows G.shows self.old) block bytes.now) (shown F.shows G.shows self.old) }
+        ensures first { F.shows self.new.first ≡ first_after (F.shows self.old.first) block result (appended (F.shows self.old.first) block bytes.now) }
+        ensures second { G.shows self.new.second ≡ second_after (F.shows self.old.first) (G.shows self.old.second) block result (appended (G.shows self.old.second) (block - length (F.shows self.old.first).blocks) bytes.now) }
     {
-        match self.place(block) {
+        match self.place(block).ok_or(Refusal::NoSuchPage)? {
             Place::First(under) => self.first.program(under, page, bytes),
             Place::Second(under) => self.second.program(under, page, bytes),
-            Place::Nowhere => Err(Refusal::NoSuchPage),
         }
     }
 
+    #[tactic(auto, using(crate::proofs::Calls::page_steps))]
     fn read(&mut self, block: usize, page: usize, buffer: &mut [u8; 256]) -> Result<(), Refusal>
-        ensures answer { result ≡ read_answer (pair_of (F.Flash.shows self.old.first) (G.Flash.shows self.old.second)) block page }
-        ensures buffer { buffer.new ≡ either result (content (pair_of (F.Flash.shows self.old.first) (G.Flash.shows self.old.second)) block page) buffer.old }
-        ensures after { pair_of (F.Flash.shows self.new.first) (G.Flash.shows self.new.second) ≡ pair_of (F.Flash.shows self.old.first) (G.Flash.shows self.old.second) }
-        ensures first { F.Flash.shows self.new.first ≡ F.Flash.shows self.old.first }
-        ensures second { G.Flash.shows self.new.second ≡ G.Flash.shows self.old.second }
+        ensures answer { result ≡ read_answer (shown F.shows G.shows self.old) block page }
+        ensures buffer { buffer.new ≡ either result (content (shown F.shows G.shows self.old) block page) buffer.old }
+        ensures after { shown F.shows G.shows self.new ≡ shown F.shows G.shows self.old }
+        ensures first { F.shows self.new.first ≡ F.shows self.old.first }
+        ensures second { G.shows self.new.second ≡ G.shows self.old.second }
     {
-        match self.place(block) {
+        match self.place(block).ok_or(Refusal::NoSuchPage)? {
             Place::First(under) => self.first.read(under, page, buffer),
             Place::Second(under) => self.second.read(under, page, buffer),
-            Place::Nowhere => Err(Refusal::NoSuchPage),
         }
     }
 
+    #[tactic(auto, using(crate::proofs::Calls::erase_steps))]
     fn erase(&mut self, block: usize) -> Result<(), Refusal>
-        ensures answer { result ≡ erase_answer (pair_of (F.Flash.shows self.old.first) (G.Flash.shows self.old.second)) block }
-        ensures after { pair_of (F.Flash.shows self.new.first) (G.Flash.shows self.new.second) ≡ either result (erased (pair_of (F.Flash.shows self.old.first) (G.Flash.shows self.old.second)) block) (pair_of (F.Flash.shows self.old.first) (G.Flash.shows self.old.second)) }
-        ensures first { F.Flash.shows self.new.first ≡ first_after (F.Flash.shows self.old.first) block result (erased (F.Flash.shows self.old.first) block) }
-        ensures second { G.Flash.shows self.new.second ≡ second_after (F.Flash.shows self.old.first) (G.Flash.shows self.old.second) block result (erased (G.Flash.shows self.old.second) (block - length (F.Flash.shows self.old.first).blocks)) }
+        ensures answer { result ≡ erase_answer (shown F.shows G.shows self.old) block }
+        ensures after { shown F.shows G.shows self.new ≡ either result (erased (shown F.shows G.shows self.old) block) (shown F.shows G.shows self.old) }
+        ensures first { F.shows self.new.first ≡ first_after (F.shows self.old.first) block result (erased (F.shows self.old.first) block) }
+        ensures second { G.shows self.new.second ≡ second_after (F.shows self.old.first) (G.shows self.old.second) block result (erased (G.shows self.old.second) (block - length (F.shows self.old.first).blocks)) }
     {
-        let endurance = self.endurance();
-        match self.place(block) {
-            Place::First(under) => erase_within(&mut self.first, under, endurance),
-            Place::Second(under) => erase_within(&mut self.second, under, endurance),
-            Place::Nowhere => Err(Refusal::NoSuchPage),
+        let place = self.place(block).ok_or(Refusal::NoSuchPage)?;
+        if self.erases(block) >= self.endurance() {
+            return Err(Refusal::WornOut);
+        }
+        match place {
+            Place::First(under) => self.first.erase(under),
+            Place::Second(under) => self.second.erase(under),
         }
     }
 }

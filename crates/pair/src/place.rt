@@ -6,6 +6,4 @@ pub enum Place {
     First(usize),
     // In the second part, under this number.
     Second(usize),
-    // The pair has no such block.
-    Nowhere,
 }
