@@ -1,5 +1,5 @@
 // The limits of the memory part and of the pair.
-use crate::refusals::code;
+use crate::refusals::by_number;
 use flash::Flash;
 use memory::MemoryPart;
 use pair::Pair;
@@ -33,7 +33,7 @@ fn less_than_a_record_is_no_block(rt: HostRuntime) {
     let mut bytes = [9; 263];
     let mut part = MemoryPart::fresh(&mut bytes, 1, 1);
     assert_eq!(rt; part.blocks(), 0);
-    assert_eq!(rt; code(part.erase(0)), 16);
+    assert_eq!(rt; by_number(part.erase(0)), Err(16));
     assert_eq!(rt; part.into_bytes()[262], 9);
 }
 
@@ -57,8 +57,8 @@ fn pair_is_limited(rt: HostRuntime) {
         MemoryPart::fresh(&mut second, 1, 1),
     );
     assert_eq!(rt; part.blocks(), 255);
-    assert_eq!(rt; code(part.erase(254)), 0);
-    assert_eq!(rt; code(part.erase(255)), 16);
+    assert_eq!(rt; by_number(part.erase(254)), Ok(()));
+    assert_eq!(rt; by_number(part.erase(255)), Err(16));
 }
 
 #[test]
@@ -82,9 +82,9 @@ fn counts_are_limited_on_attach(rt: HostRuntime) {
     let mut part = MemoryPart::attach(&mut bytes, 1, 10);
     assert_eq!(rt; part.written(0), 1);
     assert_eq!(rt; part.erases(0), 10);
-    assert_eq!(rt; code(part.program(0, 0, &buffer)), 17);
-    assert_eq!(rt; code(part.erase(0)), 19);
-    assert_eq!(rt; code(part.read(0, 0, &mut buffer)), 0);
+    assert_eq!(rt; by_number(part.program(0, 0, &buffer)), Err(17));
+    assert_eq!(rt; by_number(part.erase(0)), Err(19));
+    assert_eq!(rt; by_number(part.read(0, 0, &mut buffer)), Ok(()));
     assert_eq!(rt; buffer, [255; 256]);
 }
 
@@ -94,14 +94,14 @@ fn erase_leaves_spare_bytes(rt: HostRuntime) {
     let mut bytes = [1; RECORD];
     let mut part = MemoryPart::attach(&mut bytes, 1, 1_000_000);
     assert_eq!(rt; part.erases(0), 1_000_000);
-    assert_eq!(rt; code(part.erase(0)), 19);
+    assert_eq!(rt; by_number(part.erase(0)), Err(19));
     let back = part.into_bytes();
     assert!(rt; back.len() == RECORD);
     back[6] = 0;
     back[7] = 0;
     let mut part = MemoryPart::attach(back, 1, 1_000_000);
     assert_eq!(rt; part.erases(0), 257);
-    assert_eq!(rt; code(part.erase(0)), 0);
+    assert_eq!(rt; by_number(part.erase(0)), Ok(()));
     let back = part.into_bytes();
     assert!(rt; back.len() == RECORD);
     assert_eq!(rt; [back[0], back[1], back[2], back[3]], [0, 0, 1, 1]);

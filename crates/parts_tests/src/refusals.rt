@@ -1,17 +1,14 @@
 // What every part with clean blocks has to refuse, by number.
 ghost use Rattle.std.specs.Prelude.{◌≡◌};
-ghost use Rattle.parts_tests.specs.Codes.{code_of};
+ghost use Rattle.parts_tests.specs.Numbers.{answer_by_number};
 
 use flash::{Flash, Refusal};
 
-// A refusal's number, or 0 for an accepted call.
-pub(crate) fn code(answer: Result<(), Refusal>) -> u8
-    ensures value { result ≡ code_of answer }
+// The answer, with the number of a refusal for the refusal.
+pub(crate) fn by_number(answer: Result<(), Refusal>) -> Result<(), u8>
+    ensures value { result ≡ answer_by_number answer }
 {
-    match answer {
-        Ok(()) => 0,
-        Err(refusal) => refusal.number(),
-    }
+    answer.map_err(Refusal::number)
 }
 
 // The answers of a part with `blocks` clean blocks of `pages` pages: a block too far in each call, a page too far, a page out
@@ -21,17 +18,17 @@ pub(crate) fn answers<F: Flash>(
     blocks: usize,
     pages: usize,
     buffer: &mut [u8; 256],
-) -> [u8; 9] {
+) -> [Result<(), u8>; 9] {
     let page = [7; 256];
     [
-        code(part.erase(blocks)),
-        code(part.program(blocks, 0, &page)),
-        code(part.read(blocks, 0, buffer)),
-        code(part.program(0, pages, &page)),
-        code(part.program(0, 1, &page)),
-        code(part.read(0, 0, buffer)),
-        code(part.program(0, 0, &page)),
-        code(part.program(0, 0, &page)),
-        code(part.read(0, 0, buffer)),
+        by_number(part.erase(blocks)),
+        by_number(part.program(blocks, 0, &page)),
+        by_number(part.read(blocks, 0, buffer)),
+        by_number(part.program(0, pages, &page)),
+        by_number(part.program(0, 1, &page)),
+        by_number(part.read(0, 0, buffer)),
+        by_number(part.program(0, 0, &page)),
+        by_number(part.program(0, 0, &page)),
+        by_number(part.read(0, 0, buffer)),
     ]
 }
