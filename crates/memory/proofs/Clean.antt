@@ -5,8 +5,8 @@ use Rattle.std.proofs.lemmas.Nat.{mul-le, div-add-mod'}
 use Rattle.std.proofs.lemmas.List.{length-append, length-drop, get_or_append_left, get_or-append_right, get_or-replicate}
 use Rattle.std.proofs.lemmas.Bool.{cases_eq}
 use Rattle.flash.specs.Part.{Block, no_block}
-use Rattle.memory.specs.Layout.{pages_of, endurance_of, record_size, record_count, record_at, page_in, written_in}
-use Rattle.memory.specs.Memory.{block_in, memory_of, blank_record, blank_records, formatted, clean_part}
+use Rattle.memory.specs.Layout.{record_size, record_count, record_at, page_in, written_in}
+use Rattle.memory.specs.Memory.{block_in, part_in, blank_record, blank_records, formatted, clean_part}
 use Rattle.memory.proofs.Blank.{length_blank_records}
 use Rattle.memory.proofs.Counts.{counted_all}
 use Rattle.memory.proofs.Records.{record_apart, block_by}
@@ -62,11 +62,9 @@ module _ (m : List ℕ) (P : ℕ) where
       (omega (arith, formatted_count b 4 h (omega arith), byte 1 (omega arith), byte 2 (omega arith), byte 3 (omega arith)))
 
 -- It shows that part.
-pub shown_clean : (m : List ℕ) (pages endurance : ℕ)
-    → memory_of (formatted m (pages_of pages)) pages endurance
-    ≡ clean_part (record_count m (pages_of pages)) (pages_of pages) (endurance_of endurance)
-shown_clean m pages endurance =
-    let P = pages_of pages in let W = endurance_of endurance in let m' = formatted m P in
+pub shown_clean : (m : List ℕ) (P W : ℕ) → part_in (formatted m P) P W ≡ clean_part (record_count m P) P W
+shown_clean m P W =
+    let m' = formatted m P in
     ap (λ n. record { blocks = map (block_in m' P W) (range_with_len 0 (min (n / record_size P) 255)); per_block = P; endurance = W })
     (formatted_length m P)
     ∙ ap (λ (xs : List Block). record { blocks = xs; per_block = P; endurance = W })

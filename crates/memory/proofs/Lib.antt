@@ -1,4 +1,3 @@
-pub mod Accepted
 pub mod Blank
 pub mod Clean
 pub mod Counts

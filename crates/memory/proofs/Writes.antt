@@ -1,8 +1,10 @@
 -- What a write of some bytes leaves of a memory, and numbers in bytes.
-use Rattle.std.proofs.Common.{◌≡◌, ℕ, ◌+◌, ◌-◌, ◌*◌, ◌/◌, ◌%◌, ◌<◌, ◌≤◌, List, ◌++◌, length, get_or, take, drop, sym, refl, ap, ◌∙◌, arith}
+use Rattle.std.proofs.Common.{◌≡◌, ℕ, ◌+◌, ◌-◌, ◌*◌, ◌/◌, ◌%◌, ◌<◌, ◌≤◌, List, ◌++◌, length, get_or, take, drop, replicate, sym, refl, ap, ◌∙◌, arith}
 use native.Mathlib.Nat.{div-div-eq-div-mul}
-use Rattle.std.proofs.lemmas.List.{length-append, length-take, length-take-le, length-drop, get_or_append_left, get_or-append_right, get_or-take, get_or-drop, take_at, drop_at, drop-drop, append_assoc, ext_get_or}
+use Rattle.std.proofs.lemmas.List.{length-append, length-replicate, length-take, length-take-le, length-drop, get_or_append_left, get_or-append_right, get_or-take, get_or-drop, take_at, drop_at, drop-drop, append_assoc, ext_get_or}
 use Rattle.std.proofs.lemmas.Nat.{div-add-mod', div_below}
+use borrow.Rule.Slice.PartMut.{put_mid}
+use Rattle.std.specs.Int.{w16, w32, from_le_bytes}
 use Rattle.memory.specs.Layout.{number16, number32, bytes16, bytes32}
 use Rattle.memory.specs.Memory.{put}
 
@@ -40,6 +42,18 @@ module _ (m : List ℕ) (i : ℕ) (xs : List ℕ) (within : i + length xs ≤ le
       ∙ get_or-append_right xs _ (length xs) (j - i) 0 refl (omega arith)
       ∙ get_or-drop (i + length xs) m (j - i - length xs) 0
       ∙ ap (λ k. get_or m k 0) (omega arith)
+
+-- A write to the bytes from one place up to another, as a slice makes it: of some bytes, and of one value throughout.
+pub copy_part : (m : List ℕ) (i e : ℕ) (new xs : List ℕ) → e ≡ i + length xs → new ≡ xs → put_mid i (e - i) m new ≡ put m i xs
+copy_part m i e new xs long is =
+    ap (put_mid i (e - i) m) is
+    ∙ ap (λ w. take i m ++ (xs ++ w)) (drop-drop (e - i) i m ∙ ap (λ n. drop n m) (omega arith))
+
+pub fill_part : (m : List ℕ) (i e n v : ℕ) (new : List ℕ) → e ≡ i + n → e ≤ length m
+    → new ≡ replicate (length (take (e - i) (drop i m))) v → put_mid i (e - i) m new ≡ put m i (replicate n v)
+fill_part m i e n v new long within is =
+    copy_part m i e new (replicate n v) (omega (arith, length-replicate n v))
+    (is ∙ ap (λ k. replicate k v) (length-take-le (e - i) (drop i m) (omega (arith, length-drop i m)) ∙ omega arith))
 
 -- A write right after another is one write.
 pub put_put : (m : List ℕ) (i : ℕ) (xs ys : List ℕ) → i + length xs + length ys ≤ length m
@@ -81,6 +95,21 @@ pub same_number32 : (a b : List ℕ) (i : ℕ) → Same a b i (i + 4) → number
 same_number32 a b i same =
     let p = same i (omega arith) (omega arith) in let q = same (i + 1) (omega arith) (omega arith) in
     let r = same (i + 2) (omega arith) (omega arith) in let s = same (i + 3) (omega arith) (omega arith) in cc
+
+-- A number is read from its bytes.
+read_byte : (m : List ℕ) (i n j : ℕ) → j < n → get_or (take n (drop i m)) j 0 ≡ get_or m (i + j) 0
+read_byte m i n j h = get_or-take n (drop i m) j 0 h ∙ get_or-drop i m j 0
+
+pub read_number16 : (m : List ℕ) (i : ℕ) → from_le_bytes w16 (take 2 (drop i m)) ≡ number16 m i
+read_number16 m i =
+    let p = read_byte m i 2 0 (omega arith) in let q = read_byte m i 2 1 (omega arith) in
+    let z : get_or m (i + 0) 0 ≡ get_or m i 0 = ap (λ k. get_or m k 0) (omega arith) in omega arith
+
+pub read_number32 : (m : List ℕ) (i : ℕ) → from_le_bytes w32 (take 4 (drop i m)) ≡ number32 m i
+read_number32 m i =
+    let p = read_byte m i 4 0 (omega arith) in let q = read_byte m i 4 1 (omega arith) in
+    let r = read_byte m i 4 2 (omega arith) in let s = read_byte m i 4 3 (omega arith) in
+    let z : get_or m (i + 0) 0 ≡ get_or m i 0 = ap (λ k. get_or m k 0) (omega arith) in omega arith
 
 -- A number of 16 bits that was written is read back.
 pub number16_put : (m : List ℕ) (i n : ℕ) → i + 2 ≤ length m → n < 65536 → number16 (put m i (bytes16 n)) i ≡ n

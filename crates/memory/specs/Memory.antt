@@ -9,17 +9,17 @@ use Rattle.memory.specs.Layout.{pages_of, endurance_of, record_count, record_at,
 abbrev pub block_in : List ℕ → ℕ → ℕ → ℕ → Block
 block_in m P W b = record { pages = map (page_in m P b) (range_with_len 0 (written_in m P b)); erases = min (stored_erases m P b) W }
 
+-- The part in a memory whose blocks have P pages and endure W erases.
+abbrev pub part_in : List ℕ → ℕ → ℕ → Part
+part_in m P W = record { blocks = map (block_in m P W) (range_with_len 0 (record_count m P)); per_block = P; endurance = W }
+
 -- The part in a memory, by the pages to a block and the endurance that were asked for.
 abbrev pub memory_of : List ℕ → ℕ → ℕ → Part
-memory_of m pages endurance = record {
-  blocks = map (block_in m (pages_of pages) (endurance_of endurance)) (range_with_len 0 (record_count m (pages_of pages)));
-  per_block = pages_of pages;
-  endurance = endurance_of endurance;
-}
+memory_of m pages endurance = part_in m (pages_of pages) (endurance_of endurance)
 
 -- The part that a memory part shows.
 abbrev pub shown_by : MemoryPart → Part
-shown_by part = memory_of part.bytes.now part.pages part.endurance
+shown_by part = part_in part.bytes.now part.limits.pages part.limits.endurance
 
 -- The memory in which xs stands from i on, and every other byte is as it was.
 abbrev pub put : List ℕ → ℕ → List ℕ → List ℕ

@@ -1,43 +1,42 @@
 // A part in memory that the caller lends and gets back.
-ghost use Rattle.std.specs.Prelude.{◌≡◌};
+ghost use Rattle.std.specs.Prelude.{◌≡◌, ◌+◌, ◌<◌, ◌≤◌, length, take, drop, IfOk, IfSome, IsOkUnless};
+ghost use Rattle.std.specs.Option.{SomeIff};
+ghost use Rattle.std.specs.Result.{OkIff};
 ghost use Rattle.flash.specs.Part.{content, appended, erased};
 ghost use Rattle.flash.specs.Answers.{program_answer, read_answer, erase_answer, either};
-ghost use Rattle.memory.specs.Layout.{pages_of, endurance_of, record_count};
-ghost use Rattle.memory.specs.Memory.{shown_by, programmed, wiped, formatted, clean_part};
+ghost use Rattle.flash.specs.declared.refusal.Refusal.TheVariants.{NoSuchPage};
+ghost use Rattle.memory.specs.Layout.{pages_of, endurance_of, record_size, record_count, record_at};
+ghost use Rattle.memory.specs.Memory.{shown_by, memory_of, programmed, wiped, formatted, clean_part};
 
-use crate::layout;
+use crate::layout::{ERASED, ERASES, HEADER, PAGE, WRITTEN};
+use crate::limits::Limits;
 use flash::{Flash, Refusal};
 
-// Holds the numbers that it was asked for; what is out of their limits is cut where it is read.
 #[derive(Drop)]
 pub struct MemoryPart<'a> {
     bytes: &'a mut [u8],
-    pages: usize,
-    endurance: u32,
+    limits: Limits,
 }
 
 impl<'a> MemoryPart<'a> {
     // Makes the memory a part with no page written and no block erased.
     pub fn fresh(bytes: &'a mut [u8], pages: usize, endurance: u32) -> Self
         ensures bytes { result.bytes.now ≡ formatted bytes.old (pages_of pages) }
-        ensures pages { result.pages ≡ pages }
-        ensures endurance { result.endurance ≡ endurance }
         ensures clean { shown_by result ≡ clean_part (record_count bytes.old (pages_of pages)) (pages_of pages) (endurance_of endurance) }
     {
-        layout::format(bytes, layout::pages_of(pages));
-        Self::attach(bytes, pages, endurance)
+        let limits = Limits::new(pages, endurance);
+        limits.format(bytes);
+        MemoryPart { bytes, limits }
     }
 
     // Takes the memory as the part that it already holds.
     pub fn attach(bytes: &'a mut [u8], pages: usize, endurance: u32) -> Self
         ensures bytes { result.bytes.now ≡ bytes.old }
-        ensures pages { result.pages ≡ pages }
-        ensures endurance { result.endurance ≡ endurance }
+        ensures shown { shown_by result ≡ memory_of bytes.old pages endurance }
     {
         MemoryPart {
             bytes,
-            pages,
-            endurance,
+            limits: Limits::new(pages, endurance),
         }
     }
 
@@ -45,28 +44,40 @@ impl<'a> MemoryPart<'a> {
     pub fn into_bytes(self) -> &'a mut [u8]
         ensures bytes { result.now ≡ self.entry.bytes.now }
     {
-        let MemoryPart {
-            bytes,
-            pages: _,
-            endurance: _,
-        } = self;
-        bytes
+        self.bytes
     }
 
-    // Reads a page; the memory is only looked at.
-    fn load(&self, block: usize, page: usize, buffer: &mut [u8; 256]) -> Result<(), Refusal>
-        ensures answer { result ≡ read_answer (shown_by self.now) block page }
-        ensures buffer { buffer.new ≡ either result (content (shown_by self.now) block page) buffer.old }
+    // Where the record of the block begins, if there is one.
+    #[tactic(auto, using(crate::proofs::Shown::record_shown))]
+    fn record(&self, block: usize) -> Option<usize>
+        ensures place { SomeIff result (block < length (shown_by self.now).blocks) (record_at self.now.limits.pages block) }
+        ensures within { IfSome result (λ at. at + record_size self.now.limits.pages ≤ length self.now.bytes.now) }
     {
-        let pages = self.pages_per_block();
-        if block >= self.blocks() || page >= pages {
-            return Err(Refusal::NoSuchPage);
+        if block < self.blocks() {
+            Some(block * self.limits.record_size())
+        } else {
+            None
         }
-        if page >= self.written(block) {
-            return Err(Refusal::Unwritten);
+    }
+
+    // Where the record of the block begins, if it has the page.
+    fn record_with_page(&self, block: usize, page: usize) -> Result<usize, Refusal>
+        ensures place { OkIff result ((block < length (shown_by self.now).blocks) × (page < (shown_by self.now).per_block)) (record_at self.now.limits.pages block) }
+        ensures within { IfOk result (λ at. at + record_size self.now.limits.pages ≤ length self.now.bytes.now) }
+        ensures refusal { IsOkUnless result NoSuchPage }
+    {
+        match self.record(block) {
+            Some(record) if page < self.limits.pages => Ok(record),
+            _ => Err(Refusal::NoSuchPage),
         }
-        layout::read_page(self.bytes, pages, block, page, buffer);
-        Ok(())
+    }
+
+    // The N bytes from `at` on.
+    fn bytes_at<const N: usize>(&self, at: usize) -> [u8; N]
+        requires within { at + N ≤ length self.now.bytes.now }
+        ensures value { result ≡ take N (drop at self.now.bytes.now) }
+    {
+        *self.bytes[at..].first_chunk().unwrap()
     }
 }
 
@@ -74,48 +85,44 @@ impl<'a> Flash for MemoryPart<'a> {
     ghost shows = { shown_by };
 
     fn blocks(&self) -> usize {
-        layout::record_count(self.bytes, layout::pages_of(self.pages))
+        self.limits.record_count(self.bytes)
     }
 
     fn pages_per_block(&self) -> usize {
-        layout::pages_of(self.pages)
+        self.limits.pages
     }
 
     fn endurance(&self) -> u32 {
-        layout::endurance_of(self.endurance)
+        self.limits.endurance
     }
 
     fn written(&self, block: usize) -> usize {
-        if block < self.blocks() {
-            layout::written(self.bytes, self.pages_per_block(), block)
-        } else {
-            0
-        }
+        let Some(record) = self.record(block) else {
+            return 0;
+        };
+        usize::from(u16::from_le_bytes(self.bytes_at(record))).min(self.limits.pages)
     }
 
     fn erases(&self, block: usize) -> u32 {
-        if block < self.blocks() {
-            layout::erases(self.bytes, self.pages_per_block(), self.endurance(), block)
-        } else {
-            0
-        }
+        let Some(record) = self.record(block) else {
+            return 0;
+        };
+        u32::from_le_bytes(self.bytes_at(record + ERASES)).min(self.limits.endurance)
     }
 
     fn program(&mut self, block: usize, page: usize, bytes: &[u8; 256]) -> Result<(), Refusal>
         ensures answer { result ≡ program_answer (shown_by self.old) block page }
         ensures after { shown_by self.new ≡ either result (appended (shown_by self.old) block bytes.now) (shown_by self.old) }
-        ensures memory { self.new.bytes.now ≡ either result (programmed self.old.bytes.now (pages_of self.old.pages) block page bytes.now) self.old.bytes.now }
-        ensures pages { self.new.pages ≡ self.old.pages }
-        ensures endurance { self.new.endurance ≡ self.old.endurance }
+        ensures memory { self.new.bytes.now ≡ either result (programmed self.old.bytes.now self.old.limits.pages block page bytes.now) self.old.bytes.now }
+        ensures limits { self.new.limits ≡ self.old.limits }
     {
-        let pages = self.pages_per_block();
-        if block >= self.blocks() || page >= pages {
-            return Err(Refusal::NoSuchPage);
-        }
+        let record = self.record_with_page(block, page)?;
         if page != self.written(block) {
             return Err(Refusal::NotNext);
         }
-        layout::write_page(self.bytes, pages, block, page, bytes);
+        let at = record + HEADER + PAGE * page;
+        self.bytes[at..at + PAGE].copy_from_slice(bytes);
+        self.bytes[record..record + WRITTEN].copy_from_slice(&(page as u16 + 1).to_le_bytes());
         Ok(())
     }
 
@@ -124,27 +131,31 @@ impl<'a> Flash for MemoryPart<'a> {
         ensures buffer { buffer.new ≡ either result (content (shown_by self.old) block page) buffer.old }
         ensures after { shown_by self.new ≡ shown_by self.old }
         ensures memory { self.new.bytes.now ≡ self.old.bytes.now }
-        ensures pages { self.new.pages ≡ self.old.pages }
-        ensures endurance { self.new.endurance ≡ self.old.endurance }
+        ensures limits { self.new.limits ≡ self.old.limits }
     {
-        self.load(block, page, buffer)
+        let record = self.record_with_page(block, page)?;
+        if page >= self.written(block) {
+            return Err(Refusal::Unwritten);
+        }
+        *buffer = self.bytes_at(record + HEADER + PAGE * page);
+        Ok(())
     }
 
     fn erase(&mut self, block: usize) -> Result<(), Refusal>
         ensures answer { result ≡ erase_answer (shown_by self.old) block }
         ensures after { shown_by self.new ≡ either result (erased (shown_by self.old) block) (shown_by self.old) }
-        ensures memory { self.new.bytes.now ≡ either result (wiped self.old.bytes.now (pages_of self.old.pages) block) self.old.bytes.now }
-        ensures pages { self.new.pages ≡ self.old.pages }
-        ensures endurance { self.new.endurance ≡ self.old.endurance }
+        ensures memory { self.new.bytes.now ≡ either result (wiped self.old.bytes.now self.old.limits.pages block) self.old.bytes.now }
+        ensures limits { self.new.limits ≡ self.old.limits }
     {
-        let pages = self.pages_per_block();
-        if block >= self.blocks() {
-            return Err(Refusal::NoSuchPage);
-        }
-        if self.erases(block) >= self.endurance() {
+        let record = self.record(block).ok_or(Refusal::NoSuchPage)?;
+        let erases = self.erases(block);
+        if erases >= self.limits.endurance {
             return Err(Refusal::WornOut);
         }
-        layout::wipe(self.bytes, pages, block);
+        let end = record + self.limits.record_size();
+        self.bytes[record + HEADER..end].fill(ERASED);
+        self.bytes[record..record + WRITTEN].fill(0);
+        self.bytes[record + ERASES..record + HEADER].copy_from_slice(&(erases + 1).to_le_bytes());
         Ok(())
     }
 }
