@@ -38,9 +38,7 @@ put_elsewhere m P b c i xs within low high ne =
 -- Blocks with the same pages and the same erase count are the same.
 pub block_by : (p q : List (List ℕ)) (e f : ℕ) → p ≡ q → e ≡ f
     → ◌≡◌ {A = Block} (record { pages = p; erases = e }) (record { pages = q; erases = f })
-block_by p q e f same_pages same_erases =
-    ap (λ (x : List (List ℕ)). record { pages = x; erases = e }) same_pages
-    ∙ ap (λ (x : ℕ). record { pages = q; erases = x }) same_erases
+block_by p q e f same_pages same_erases = cc
 
 module _ (m m' : List ℕ) (P b : ℕ) (level : length m ≡ length m') (inside : record_at P b + record_size P ≤ length m) where
   -- Of a page on which two memories agree they give the same bytes.

@@ -60,10 +60,8 @@ module _ (m : List ℕ) (P W b at : ℕ) (inside : b < length (part_in m P W).bl
   pub read_erases : min (from_le_bytes w32 (take 4 (drop (at + 4) m))) W ≡ erases (part_in m P W) b
   read_erases = ap (λ n. min n W) (read_number32 m (at + 4)) ∙ ap (λ i. min (number32 m (i + 4)) W) place ∙ sym (shown_erases m P W b here)
 
-  pub read_content : (k i e : ℕ) → k < written (part_in m P W) b → i ≡ at + 8 + 256 * k → e ≡ 256
-      → take e (drop i m) ≡ content (part_in m P W) b k
-  read_content k i e there from long =
-      ap (λ n. take n (drop i m)) long ∙ ap (λ j. take 256 (drop j m)) (omega arith) ∙ sym (shown_content m P W b here k there)
+  pub read_content : (k : ℕ) → k < written (part_in m P W) b → take 256 (drop (at + 8 + 256 * k) m) ≡ content (part_in m P W) b k
+  read_content k there = ap (λ i. take 256 (drop i m)) (omega arith) ∙ sym (shown_content m P W b here k there)
 
 -- Another block where the memory changed, and the others where it did not.
 pub shown_put : (m m' : List ℕ) (P W b : ℕ) (new : Block)

@@ -1,8 +1,7 @@
 -- What a write of some bytes leaves of a memory, and numbers in bytes.
-use Rattle.std.proofs.Common.{◌≡◌, ℕ, ◌+◌, ◌-◌, ◌*◌, ◌/◌, ◌%◌, ◌<◌, ◌≤◌, List, ◌++◌, length, get_or, take, drop, replicate, sym, refl, ap, ◌∙◌, arith}
-use native.Mathlib.Nat.{div-div-eq-div-mul}
+use Rattle.std.proofs.Common.{◌≡◌, ℕ, ◌+◌, ◌-◌, ◌<◌, ◌≤◌, List, ◌++◌, length, get_or, take, drop, replicate, sym, refl, ap, ◌∙◌, arith}
 use Rattle.std.proofs.lemmas.List.{length-append, length-replicate, length-take, length-take-le, length-drop, get_or_append_left, get_or-append_right, get_or-take, get_or-drop, take_at, drop_at, drop-drop, append_assoc, ext_get_or}
-use Rattle.std.proofs.lemmas.Nat.{div-add-mod', div_below}
+use Rattle.std.proofs.lemmas.Nat.{from_le_bytes-to_le_bytes_2, from_le_bytes-to_le_bytes_4}
 use borrow.Rule.Slice.PartMut.{put_mid}
 use Rattle.std.specs.Int.{w16, w32, from_le_bytes}
 use Rattle.memory.specs.Layout.{number16, number32, bytes16, bytes32}
@@ -21,14 +20,7 @@ module _ (m : List ℕ) (i : ℕ) (xs : List ℕ) (within : i + length xs ≤ le
   front : length (take i m) ≡ i
   front = length-take-le i m (omega arith)
 
-  -- The bytes written stand there.
-  pub get_d_put : (j : ℕ) → j < length xs → get_or (put m i xs) (i + j) 0 ≡ get_or xs j 0
-  get_d_put j h =
-      get_or-append_right (take i m) _ i (i + j) 0 front (omega arith)
-      ∙ ap (λ k. get_or (xs ++ drop (i + length xs) m) k 0) (omega arith)
-      ∙ get_or_append_left xs _ 0 j h
-
-  -- They are read back as a whole.
+  -- The bytes written are read back.
   pub between_put : take (length xs) (drop i (put m i xs)) ≡ xs
   between_put = ap (take (length xs)) (drop_at (take i m) _ i front) ∙ take_at xs _ (length xs) refl
 
@@ -111,35 +103,13 @@ read_number32 m i =
     let r = read_byte m i 4 2 (omega arith) in let s = read_byte m i 4 3 (omega arith) in
     let z : get_or m (i + 0) 0 ≡ get_or m i 0 = ap (λ k. get_or m k 0) (omega arith) in omega arith
 
--- A number of 16 bits that was written is read back.
+-- A number that was written is read back.
 pub number16_put : (m : List ℕ) (i n : ℕ) → i + 2 ≤ length m → n < 65536 → number16 (put m i (bytes16 n)) i ≡ n
 number16_put m i n within small =
-    let p : get_or (put m i (bytes16 n)) i 0 ≡ n % 256 =
-    ap (λ k. get_or (put m i (bytes16 n)) k 0) (omega arith) ∙ get_d_put m i (bytes16 n) within 0 (omega arith) in
-    let q = get_d_put m i (bytes16 n) within 1 (omega arith) in omega arith
+    sym (read_number16 (put m i (bytes16 n)) i)
+    ∙ ap (from_le_bytes w16) (between_put m i (bytes16 n) within) ∙ from_le_bytes-to_le_bytes_2 n small
 
--- A number is made up of its four bytes.
-sum_digits : (n q1 q2 q3 r0 r1 r2 r3 : ℕ) → q1 * 256 + r0 ≡ n → q2 * 256 + r1 ≡ q1 → q3 * 256 + r2 ≡ q2 → q3 ≡ r3
-    → r0 + r1 * 256 + r2 * 65536 + r3 * 16777216 ≡ n
-sum_digits n q1 q2 q3 r0 r1 r2 r3 a b c d = omega arith
-
--- So is a number of 32 bits of its bytes.
-sum_bytes32 : (n : ℕ) → n < 4294967296
-    → n % 256 + n / 256 % 256 * 256 + n / 65536 % 256 * 65536 + n / 16777216 % 256 * 16777216 ≡ n
-sum_bytes32 n small =
-    let top = div_below n 16777216 256 (omega arith) (omega arith) in
-    sum_digits n (n / 256) (n / 65536) (n / 16777216) _ _ _ _
-    (div-add-mod' n 256)
-    (ap (λ q. q * 256 + n / 256 % 256) (sym (div-div-eq-div-mul n 256 256)) ∙ div-add-mod' (n / 256) 256)
-    (ap (λ q. q * 256 + n / 65536 % 256) (sym (div-div-eq-div-mul n 65536 256)) ∙ div-add-mod' (n / 65536) 256)
-    (omega arith)
-
--- A number of 32 bits that was written is read back.
 pub number32_put : (m : List ℕ) (i n : ℕ) → i + 4 ≤ length m → n < 4294967296 → number32 (put m i (bytes32 n)) i ≡ n
 number32_put m i n within small =
-    let p : get_or (put m i (bytes32 n)) i 0 ≡ n % 256 =
-    ap (λ k. get_or (put m i (bytes32 n)) k 0) (omega arith) ∙ get_d_put m i (bytes32 n) within 0 (omega arith) in
-    let q = get_d_put m i (bytes32 n) within 1 (omega arith) in
-    let r = get_d_put m i (bytes32 n) within 2 (omega arith) in
-    let s = get_d_put m i (bytes32 n) within 3 (omega arith) in
-    omega (arith, sum_bytes32 n small)
+    sym (read_number32 (put m i (bytes32 n)) i)
+    ∙ ap (from_le_bytes w32) (between_put m i (bytes32 n) within) ∙ from_le_bytes-to_le_bytes_4 n small

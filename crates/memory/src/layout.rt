@@ -1,6 +1,6 @@
 // How the blocks of a part lie in memory: each has a record of two counts and its pages, one record after another.
 ghost use Rattle.std.specs.Prelude.{◌≡◌, ◌<◌};
-ghost use Rattle.memory.specs.Layout.{record_size, record_count, record_at};
+ghost use Rattle.memory.specs.Layout.{Limited, record_size, record_count, record_at};
 ghost use Rattle.memory.specs.Memory.{formatted};
 
 use crate::limits::Limits;
@@ -22,22 +22,24 @@ pub(crate) const ERASED: u8 = 255;
 
 impl Limits {
     // The bytes of a record.
-    pub(crate) fn record_size(self) -> usize
-        ensures value { result ≡ record_size self.pages }
+    pub(crate) fn record_size(&self) -> usize
+        ensures value { result ≡ record_size self.now.pages }
+        ensures limited { Limited self.now }
     {
-        HEADER + PAGE * self.pages
+        HEADER + PAGE * self.pages()
     }
 
     // How many whole records the memory holds, up to the most that count.
-    pub(crate) fn record_count(self, bytes: &[u8]) -> usize
-        ensures value { result ≡ record_count bytes.now self.pages }
+    pub(crate) fn record_count(&self, bytes: &[u8]) -> usize
+        ensures value { result ≡ record_count bytes.now self.now.pages }
+        ensures limited { Limited self.now }
     {
         (bytes.len() / self.record_size()).min(MOST_BLOCKS)
     }
 
     // Makes every record that of a block never written nor erased.
-    pub(crate) fn format(self, bytes: &mut [u8])
-        ensures bytes { bytes.new ≡ formatted bytes.old self.pages }
+    pub(crate) fn format(&self, bytes: &mut [u8])
+        ensures bytes { bytes.new ≡ formatted bytes.old self.now.pages }
     {
         let size = self.record_size();
         // Of the records as `chunks_exact_mut` gives them a proof would know the lengths alone.

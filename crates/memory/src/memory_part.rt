@@ -1,11 +1,11 @@
 // A part in memory that the caller lends and gets back.
-ghost use Rattle.std.specs.Prelude.{◌≡◌, ◌+◌, ◌<◌, ◌≤◌, length, take, drop, IfOk, IfSome, IsOkUnless};
+ghost use Rattle.std.specs.Prelude.{◌≡◌, ◌+◌, ◌<◌, ◌≤◌, length, take, drop, IfOk, IfSome, OnOk, OnSome, IsOkUnless};
 ghost use Rattle.std.specs.Option.{SomeIff};
 ghost use Rattle.std.specs.Result.{OkIff};
 ghost use Rattle.flash.specs.Part.{content, appended, erased};
 ghost use Rattle.flash.specs.Answers.{program_answer, read_answer, erase_answer, either};
 ghost use Rattle.flash.specs.declared.refusal.Refusal.TheVariants.{NoSuchPage};
-ghost use Rattle.memory.specs.Layout.{pages_of, endurance_of, record_size, record_count, record_at};
+ghost use Rattle.memory.specs.Layout.{Limited, pages_of, endurance_of, record_size, record_count, record_at};
 ghost use Rattle.memory.specs.Memory.{shown_by, memory_of, programmed, wiped, formatted, clean_part};
 
 use crate::layout::{ERASED, ERASES, HEADER, PAGE, WRITTEN};
@@ -51,6 +51,7 @@ impl<'a> MemoryPart<'a> {
     #[tactic(auto, using(crate::proofs::Shown::record_shown))]
     fn record(&self, block: usize) -> Option<usize>
         ensures place { SomeIff result (block < length (shown_by self.now).blocks) (record_at self.now.limits.pages block) }
+        ensures limited { OnSome result (Limited self.now.limits) }
         ensures within { IfSome result (λ at. at + record_size self.now.limits.pages ≤ length self.now.bytes.now) }
     {
         if block < self.blocks() {
@@ -63,11 +64,12 @@ impl<'a> MemoryPart<'a> {
     // Where the record of the block begins, if it has the page.
     fn record_with_page(&self, block: usize, page: usize) -> Result<usize, Refusal>
         ensures place { OkIff result ((block < length (shown_by self.now).blocks) × (page < (shown_by self.now).per_block)) (record_at self.now.limits.pages block) }
+        ensures limited { OnOk result (Limited self.now.limits) }
         ensures within { IfOk result (λ at. at + record_size self.now.limits.pages ≤ length self.now.bytes.now) }
         ensures refusal { IsOkUnless result NoSuchPage }
     {
         match self.record(block) {
-            Some(record) if page < self.limits.pages => Ok(record),
+            Some(record) if page < self.pages_per_block() => Ok(record),
             _ => Err(Refusal::NoSuchPage),
         }
     }
@@ -84,30 +86,33 @@ impl<'a> MemoryPart<'a> {
 impl<'a> Flash for MemoryPart<'a> {
     ghost shows = { shown_by };
 
+    #[tactic(auto, using(crate::proofs::Shown::shown_count))]
     fn blocks(&self) -> usize {
         self.limits.record_count(self.bytes)
     }
 
     fn pages_per_block(&self) -> usize {
-        self.limits.pages
+        self.limits.pages()
     }
 
     fn endurance(&self) -> u32 {
-        self.limits.endurance
+        self.limits.endurance()
     }
 
+    #[tactic(auto, using(crate::proofs::Shown::read_written))]
     fn written(&self, block: usize) -> usize {
         let Some(record) = self.record(block) else {
             return 0;
         };
-        usize::from(u16::from_le_bytes(self.bytes_at(record))).min(self.limits.pages)
+        usize::from(u16::from_le_bytes(self.bytes_at(record))).min(self.pages_per_block())
     }
 
+    #[tactic(auto, using(crate::proofs::Shown::read_erases))]
     fn erases(&self, block: usize) -> u32 {
         let Some(record) = self.record(block) else {
             return 0;
         };
-        u32::from_le_bytes(self.bytes_at(record + ERASES)).min(self.limits.endurance)
+        u32::from_le_bytes(self.bytes_at(record + ERASES)).min(self.endurance())
     }
 
     fn program(&mut self, block: usize, page: usize, bytes: &[u8; 256]) -> Result<(), Refusal>
@@ -126,6 +131,7 @@ impl<'a> Flash for MemoryPart<'a> {
         Ok(())
     }
 
+    #[tactic(auto, using(crate::proofs::Shown::read_content))]
     fn read(&mut self, block: usize, page: usize, buffer: &mut [u8; 256]) -> Result<(), Refusal>
         ensures answer { result ≡ read_answer (shown_by self.old) block page }
         ensures buffer { buffer.new ≡ either result (content (shown_by self.old) block page) buffer.old }
@@ -149,7 +155,7 @@ impl<'a> Flash for MemoryPart<'a> {
     {
         let record = self.record(block).ok_or(Refusal::NoSuchPage)?;
         let erases = self.erases(block);
-        if erases >= self.limits.endurance {
+        if erases >= self.endurance() {
             return Err(Refusal::WornOut);
         }
         let end = record + self.limits.record_size();

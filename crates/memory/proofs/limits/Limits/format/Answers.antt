@@ -5,7 +5,7 @@ use Rattle.memory.proofs.limits.Limits.format.Goals as goal
 
 pub loop-block-preserved : goal.loop-block-preserved
 loop-block-preserved c =
-    let m = c.args.bytes.now in let P = c.args.self.pages in let b = c.loop-block.block in
+    let m = c.args.bytes.now in let P = c.args.self.now.pages in let b = c.loop-block.block in
     blank_step m P b _ _ _ _ _ (record_inside m P b (omega arith))
     (ap (λ n. b * n) c.record_size-size.ensures.value) c.record_size-size.ensures.value
     c.loop-block.invariant (c.fill.ensures.after (λ y h. h)) (c.fill-in-loop-block.ensures.after (λ y h. h))

@@ -1,8 +1,0 @@
-use Rattle.memory.proofs.Shown.{read_erases}
-use Rattle.memory.proofs.memory_part.MemoryPartFlash.erases.Goals as goal
-
-pub returns : goal.returns
-returns c =
-    let p = c.args.self.now in
-    let is = read_erases p.bytes.now p.limits.pages p.limits.endurance c.args.block _ c.in-Some.ensures.place.0 c.in-Some.ensures.place.1 in
-    record { value = cc }
