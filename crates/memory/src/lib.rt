@@ -2,7 +2,6 @@
 #![tactic(auto)]
 
 mod layout;
-mod limits;
 mod memory_part;
 
 pub use memory_part::MemoryPart;

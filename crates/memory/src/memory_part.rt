@@ -8,14 +8,13 @@ ghost use Rattle.flash.specs.declared.refusal.Refusal.TheVariants.{NoSuchPage};
 ghost use Rattle.memory.specs.Layout.{Limited, pages_of, endurance_of, record_size, record_count, record_at};
 ghost use Rattle.memory.specs.Memory.{shown_by, memory_of, programmed, wiped, formatted, clean_part};
 
-use crate::layout::{ERASED, ERASES, HEADER, PAGE, WRITTEN};
-use crate::limits::Limits;
+use crate::layout::{ERASED, ERASES, HEADER, Layout, PAGE, WRITTEN};
 use flash::{Flash, Refusal};
 
 #[derive(Drop)]
 pub struct MemoryPart<'a> {
     bytes: &'a mut [u8],
-    limits: Limits,
+    layout: Layout,
 }
 
 impl<'a> MemoryPart<'a> {
@@ -24,9 +23,9 @@ impl<'a> MemoryPart<'a> {
         ensures bytes { result.bytes.now ≡ formatted bytes.old (pages_of pages) }
         ensures clean { shown_by result ≡ clean_part (record_count bytes.old (pages_of pages)) (pages_of pages) (endurance_of endurance) }
     {
-        let limits = Limits::new(pages, endurance);
-        limits.format(bytes);
-        MemoryPart { bytes, limits }
+        let layout = Layout::new(pages, endurance);
+        layout.format(bytes);
+        MemoryPart { bytes, layout }
     }
 
     // Takes the memory as the part that it already holds.
@@ -36,7 +35,7 @@ impl<'a> MemoryPart<'a> {
     {
         MemoryPart {
             bytes,
-            limits: Limits::new(pages, endurance),
+            layout: Layout::new(pages, endurance),
         }
     }
 
@@ -50,12 +49,12 @@ impl<'a> MemoryPart<'a> {
     // Where the record of the block begins, if there is one.
     #[tactic(auto, using(crate::proofs::Shown::record_shown))]
     fn record(&self, block: usize) -> Option<usize>
-        ensures place { SomeIff result (block < length (shown_by self.now).blocks) (record_at self.now.limits.pages block) }
-        ensures limited { OnSome result (Limited self.now.limits) }
-        ensures within { IfSome result (λ at. at + record_size self.now.limits.pages ≤ length self.now.bytes.now) }
+        ensures place { SomeIff result (block < length (shown_by self.now).blocks) (record_at self.now.layout.pages block) }
+        ensures limited { OnSome result (Limited self.now.layout) }
+        ensures within { IfSome result (λ at. at + record_size self.now.layout.pages ≤ length self.now.bytes.now) }
     {
         if block < self.blocks() {
-            Some(block * self.limits.record_size())
+            Some(block * self.layout.record_size())
         } else {
             None
         }
@@ -63,9 +62,9 @@ impl<'a> MemoryPart<'a> {
 
     // Where the record of the block begins, if it has the page.
     fn record_with_page(&self, block: usize, page: usize) -> Result<usize, Refusal>
-        ensures place { OkIff result ((block < length (shown_by self.now).blocks) × (page < (shown_by self.now).per_block)) (record_at self.now.limits.pages block) }
-        ensures limited { OnOk result (Limited self.now.limits) }
-        ensures within { IfOk result (λ at. at + record_size self.now.limits.pages ≤ length self.now.bytes.now) }
+        ensures place { OkIff result ((block < length (shown_by self.now).blocks) × (page < (shown_by self.now).per_block)) (record_at self.now.layout.pages block) }
+        ensures limited { OnOk result (Limited self.now.layout) }
+        ensures within { IfOk result (λ at. at + record_size self.now.layout.pages ≤ length self.now.bytes.now) }
         ensures refusal { IsOkUnless result NoSuchPage }
     {
         match self.record(block) {
@@ -88,15 +87,15 @@ impl<'a> Flash for MemoryPart<'a> {
 
     #[tactic(auto, using(crate::proofs::Shown::shown_count))]
     fn blocks(&self) -> usize {
-        self.limits.record_count(self.bytes)
+        self.layout.record_count(self.bytes)
     }
 
     fn pages_per_block(&self) -> usize {
-        self.limits.pages()
+        self.layout.pages()
     }
 
     fn endurance(&self) -> u32 {
-        self.limits.endurance()
+        self.layout.endurance()
     }
 
     #[tactic(auto, using(crate::proofs::Shown::read_written))]
@@ -118,8 +117,8 @@ impl<'a> Flash for MemoryPart<'a> {
     fn program(&mut self, block: usize, page: usize, bytes: &[u8; 256]) -> Result<(), Refusal>
         ensures answer { result ≡ program_answer (shown_by self.old) block page }
         ensures after { shown_by self.new ≡ either result (appended (shown_by self.old) block bytes.now) (shown_by self.old) }
-        ensures memory { self.new.bytes.now ≡ either result (programmed self.old.bytes.now self.old.limits.pages block page bytes.now) self.old.bytes.now }
-        ensures limits { self.new.limits ≡ self.old.limits }
+        ensures memory { self.new.bytes.now ≡ either result (programmed self.old.bytes.now self.old.layout.pages block page bytes.now) self.old.bytes.now }
+        ensures layout { self.new.layout ≡ self.old.layout }
     {
         let record = self.record_with_page(block, page)?;
         if page != self.written(block) {
@@ -137,7 +136,7 @@ impl<'a> Flash for MemoryPart<'a> {
         ensures buffer { buffer.new ≡ either result (content (shown_by self.old) block page) buffer.old }
         ensures after { shown_by self.new ≡ shown_by self.old }
         ensures memory { self.new.bytes.now ≡ self.old.bytes.now }
-        ensures limits { self.new.limits ≡ self.old.limits }
+        ensures layout { self.new.layout ≡ self.old.layout }
     {
         let record = self.record_with_page(block, page)?;
         if page >= self.written(block) {
@@ -150,15 +149,15 @@ impl<'a> Flash for MemoryPart<'a> {
     fn erase(&mut self, block: usize) -> Result<(), Refusal>
         ensures answer { result ≡ erase_answer (shown_by self.old) block }
         ensures after { shown_by self.new ≡ either result (erased (shown_by self.old) block) (shown_by self.old) }
-        ensures memory { self.new.bytes.now ≡ either result (wiped self.old.bytes.now self.old.limits.pages block) self.old.bytes.now }
-        ensures limits { self.new.limits ≡ self.old.limits }
+        ensures memory { self.new.bytes.now ≡ either result (wiped self.old.bytes.now self.old.layout.pages block) self.old.bytes.now }
+        ensures layout { self.new.layout ≡ self.old.layout }
     {
         let record = self.record(block).ok_or(Refusal::NoSuchPage)?;
         let erases = self.erases(block);
         if erases >= self.endurance() {
             return Err(Refusal::WornOut);
         }
-        let end = record + self.limits.record_size();
+        let end = record + self.layout.record_size();
         self.bytes[record + HEADER..end].fill(ERASED);
         self.bytes[record..record + WRITTEN].fill(0);
         self.bytes[record + ERASES..record + HEADER].copy_from_slice(&(erases + 1).to_le_bytes());
