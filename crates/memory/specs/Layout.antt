@@ -1,5 +1,5 @@
 -- How the blocks of a part lie in a memory: one record after another, each the block's two counts and then its pages.
-use Rattle.std.specs.Prelude.{ℕ, ◌+◌, ◌*◌, ◌/◌, ◌%◌, ◌≤◌, min, max, List, [], ◌∷◌, length, take, drop, slice_index}
+use Rattle.std.specs.Prelude.{ℕ, ◌+◌, ◌*◌, ◌/◌, ◌%◌, min, max, List, [], ◌∷◌, length, take, drop, slice_index}
 
 -- The pages of a block, by the number asked for: at least 1, at most 64.
 abbrev pub pages_of : ℕ → ℕ
@@ -8,16 +8,6 @@ pages_of given = min (max given 1) 64
 -- The erases that a block endures, by the number asked for: at most a million.
 abbrev pub endurance_of : ℕ → ℕ
 endurance_of given = min given 1000000
-
--- The pages of a block, and the erases that it endures.
-pub record Bounds : Type 0 where
-  pub pages : ℕ
-  pub endurance : ℕ
-
--- Bounds that a part may have.
-pub record Limited (b : Bounds) : Type 0 where
-  pub few : b.pages ≤ 64
-  pub lasting : b.endurance ≤ 1000000
 
 -- The bytes of a block with P pages: 8 for its counts, and 256 for each page.
 abbrev pub record_size : ℕ → ℕ

@@ -1,9 +1,13 @@
-// How the blocks of a part lie in memory: each has a record of two counts and its pages, one record after another.
-ghost use Rattle.std.specs.Prelude.{◌≡◌};
-ghost use Rattle.memory.specs.Layout.{pages_of, endurance_of, Bounds, Limited, record_size, record_count};
+// Where the blocks of a part lie in its memory: each has a record of two counts and its pages, one record after another.
+ghost use Rattle.std.specs.Prelude.{◌≡◌, ◌+◌, ◌<◌, ◌≤◌, length, take, drop, IfOk, IfSome, IsOkUnless};
+ghost use Rattle.std.specs.Option.{SomeIff};
+ghost use Rattle.std.specs.Result.{OkIff};
+ghost use Rattle.flash.specs.declared.refusal.Refusal.TheVariants.{NoSuchPage};
+ghost use Rattle.memory.specs.Layout.{record_size, record_count, record_at};
+ghost use Rattle.memory.specs.Memory.{shown_by, formatted};
 
-use flash::{MOST_BLOCKS, MOST_ENDURANCE, MOST_PAGES_PER_BLOCK};
-use std::marker::Model;
+use crate::memory_part::MemoryPart;
+use flash::{Flash, MOST_BLOCKS, Refusal};
 
 // The bytes before a record's pages.
 pub(crate) const HEADER: usize = 8;
@@ -19,71 +23,64 @@ pub(crate) const PAGE: usize = 256;
 // What an erased byte reads as.
 pub(crate) const ERASED: u8 = 255;
 
-// How bytes are read as blocks: so many pages to a block, and so many erases that it endures.
-// Its model has the bounds: with a ghost field a part that holds it beside a `&mut` could stand below no window or pair.
-#[derive(Drop)]
-pub(crate) struct Layout {
-    pages: usize,
-    endurance: u32,
-}
-
-impl Model for Layout {
-    ghost Value = { Bounds };
-
-    ghost view = { λ l. record { pages = l.pages; endurance = l.endurance } };
-
-    ghost invariant = { λ l. Limited (record { pages = l.pages; endurance = l.endurance }) };
-}
-
-impl Layout {
-    ghost use Rattle.memory.specs.Memory.{formatted};
-
-    // By the numbers asked for, as far as a part may have them.
-    pub(crate) fn new(pages: usize, endurance: u32) -> Self
-        ensures pages { result.pages ≡ pages_of pages }
-        ensures endurance { result.endurance ≡ endurance_of endurance }
-    {
-        Layout {
-            pages: pages.clamp(1, MOST_PAGES_PER_BLOCK),
-            endurance: endurance.min(MOST_ENDURANCE),
-        }
-    }
-
-    pub(crate) fn pages(&self) -> usize
-        ensures value { result ≡ self.now.pages }
-    {
-        self.pages
-    }
-
-    pub(crate) fn endurance(&self) -> u32
-        ensures value { result ≡ self.now.endurance }
-    {
-        self.endurance
-    }
-
+impl<'a> MemoryPart<'a> {
     // The bytes of a record.
     pub(crate) fn record_size(&self) -> usize
-        ensures value { result ≡ record_size self.now.pages }
-        ensures limited { Limited self.now }
+        ensures value { result ≡ record_size self.now.limits.pages }
     {
-        HEADER + PAGE * self.pages
+        HEADER + PAGE * self.limits.pages
     }
 
     // How many whole records the memory holds, up to the most that count.
-    pub(crate) fn record_count(&self, bytes: &[u8]) -> usize
-        ensures value { result ≡ record_count bytes.now self.now.pages }
-        ensures limited { Limited self.now }
+    pub(crate) fn record_count(&self) -> usize
+        ensures value { result ≡ record_count self.now.bytes.now self.now.limits.pages }
     {
-        (bytes.len() / self.record_size()).min(MOST_BLOCKS)
+        (self.bytes.len() / self.record_size()).min(MOST_BLOCKS)
+    }
+
+    // Where the record of the block begins, if there is one.
+    #[tactic(auto, using(crate::proofs::Shown::record_shown))]
+    pub(crate) fn record(&self, block: usize) -> Option<usize>
+        ensures place { SomeIff result (block < length (shown_by self.now).blocks) (record_at self.now.limits.pages block) }
+        ensures within { IfSome result (λ at. at + record_size self.now.limits.pages ≤ length self.now.bytes.now) }
+    {
+        if block < self.blocks() {
+            Some(block * self.record_size())
+        } else {
+            None
+        }
+    }
+
+    // Where the record of the block begins, if it has the page.
+    pub(crate) fn record_with_page(&self, block: usize, page: usize) -> Result<usize, Refusal>
+        ensures place { OkIff result ((block < length (shown_by self.now).blocks) × (page < (shown_by self.now).per_block)) (record_at self.now.limits.pages block) }
+        ensures within { IfOk result (λ at. at + record_size self.now.limits.pages ≤ length self.now.bytes.now) }
+        ensures refusal { IsOkUnless result NoSuchPage }
+    {
+        match self.record(block) {
+            Some(record) if page < self.limits.pages => Ok(record),
+            _ => Err(Refusal::NoSuchPage),
+        }
+    }
+
+    // The N bytes from `at` on.
+    pub(crate) fn bytes_at<const N: usize>(&self, at: usize) -> [u8; N]
+        requires within { at + N ≤ length self.now.bytes.now }
+        ensures value { result ≡ take N (drop at self.now.bytes.now) }
+    {
+        *self.bytes[at..].first_chunk().unwrap()
     }
 
     // Makes every record that of a block never written nor erased.
-    pub(crate) fn format(&self, bytes: &mut [u8])
-        ensures bytes { bytes.new ≡ formatted bytes.old self.now.pages }
+    pub(crate) fn format(&mut self)
+        ensures bytes { self.new.bytes.now ≡ formatted self.old.bytes.now self.old.limits.pages }
+        ensures limits { self.new.limits ≡ self.old.limits }
     {
         let size = self.record_size();
+        let count = self.record_count();
+        let bytes = &mut *self.bytes;
         // Of the records as `chunks_exact_mut` gives them a proof would know the lengths alone.
-        for block in 0..self.record_count(bytes) {
+        for block in 0..count {
             let record = block * size;
             bytes[record..record + HEADER].fill(0);
             bytes[record + HEADER..record + size].fill(ERASED);

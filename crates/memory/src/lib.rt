@@ -2,6 +2,7 @@
 #![tactic(auto)]
 
 mod layout;
+mod limits;
 mod memory_part;
 
 pub use memory_part::MemoryPart;

@@ -1,31 +1,31 @@
 // A part in memory that the caller lends and gets back.
-ghost use Rattle.std.specs.Prelude.{◌≡◌, ◌+◌, ◌<◌, ◌≤◌, length, take, drop, IfOk, IfSome, OnOk, OnSome, IsOkUnless};
-ghost use Rattle.std.specs.Option.{SomeIff};
-ghost use Rattle.std.specs.Result.{OkIff};
-ghost use Rattle.flash.specs.Part.{content, appended, erased};
-ghost use Rattle.flash.specs.Answers.{program_answer, read_answer, erase_answer, either};
-ghost use Rattle.flash.specs.declared.refusal.Refusal.TheVariants.{NoSuchPage};
-ghost use Rattle.memory.specs.Layout.{Limited, pages_of, endurance_of, record_size, record_count, record_at};
-ghost use Rattle.memory.specs.Memory.{shown_by, memory_of, programmed, wiped, formatted, clean_part};
+ghost use Rattle.std.specs.Prelude.{◌≡◌, ◌≤◌};
+ghost use Rattle.memory.specs.Layout.{pages_of, endurance_of, record_count};
 
-use crate::layout::{ERASED, ERASES, HEADER, Layout, PAGE, WRITTEN};
+use crate::layout::{ERASED, ERASES, HEADER, PAGE, WRITTEN};
+use crate::limits::Limits;
 use flash::{Flash, Refusal};
 
 #[derive(Drop)]
 pub struct MemoryPart<'a> {
-    bytes: &'a mut [u8],
-    layout: Layout,
+    pub(crate) bytes: &'a mut [u8],
+    pub(crate) limits: Limits,
+    ghost few: { limits.pages ≤ 64 },
+    ghost lasting: { limits.endurance ≤ 1000000 },
 }
 
 impl<'a> MemoryPart<'a> {
+    ghost use Rattle.memory.specs.Memory.{shown_by, memory_of, formatted, clean_part};
+
     // Makes the memory a part with no page written and no block erased.
     pub fn fresh(bytes: &'a mut [u8], pages: usize, endurance: u32) -> Self
         ensures bytes { result.bytes.now ≡ formatted bytes.old (pages_of pages) }
         ensures clean { shown_by result ≡ clean_part (record_count bytes.old (pages_of pages)) (pages_of pages) (endurance_of endurance) }
     {
-        let layout = Layout::new(pages, endurance);
-        layout.format(bytes);
-        MemoryPart { bytes, layout }
+        let limits = Limits::new(pages, endurance);
+        let mut part = MemoryPart { bytes, limits };
+        part.format();
+        part
     }
 
     // Takes the memory as the part that it already holds.
@@ -35,7 +35,7 @@ impl<'a> MemoryPart<'a> {
     {
         MemoryPart {
             bytes,
-            layout: Layout::new(pages, endurance),
+            limits: Limits::new(pages, endurance),
         }
     }
 
@@ -45,57 +45,26 @@ impl<'a> MemoryPart<'a> {
     {
         self.bytes
     }
-
-    // Where the record of the block begins, if there is one.
-    #[tactic(auto, using(crate::proofs::Shown::record_shown))]
-    fn record(&self, block: usize) -> Option<usize>
-        ensures place { SomeIff result (block < length (shown_by self.now).blocks) (record_at self.now.layout.pages block) }
-        ensures limited { OnSome result (Limited self.now.layout) }
-        ensures within { IfSome result (λ at. at + record_size self.now.layout.pages ≤ length self.now.bytes.now) }
-    {
-        if block < self.blocks() {
-            Some(block * self.layout.record_size())
-        } else {
-            None
-        }
-    }
-
-    // Where the record of the block begins, if it has the page.
-    fn record_with_page(&self, block: usize, page: usize) -> Result<usize, Refusal>
-        ensures place { OkIff result ((block < length (shown_by self.now).blocks) × (page < (shown_by self.now).per_block)) (record_at self.now.layout.pages block) }
-        ensures limited { OnOk result (Limited self.now.layout) }
-        ensures within { IfOk result (λ at. at + record_size self.now.layout.pages ≤ length self.now.bytes.now) }
-        ensures refusal { IsOkUnless result NoSuchPage }
-    {
-        match self.record(block) {
-            Some(record) if page < self.pages_per_block() => Ok(record),
-            _ => Err(Refusal::NoSuchPage),
-        }
-    }
-
-    // The N bytes from `at` on.
-    fn bytes_at<const N: usize>(&self, at: usize) -> [u8; N]
-        requires within { at + N ≤ length self.now.bytes.now }
-        ensures value { result ≡ take N (drop at self.now.bytes.now) }
-    {
-        *self.bytes[at..].first_chunk().unwrap()
-    }
 }
 
 impl<'a> Flash for MemoryPart<'a> {
+    ghost use Rattle.flash.specs.Part.{content, appended, erased};
+    ghost use Rattle.flash.specs.Answers.{program_answer, read_answer, erase_answer, either};
+    ghost use Rattle.memory.specs.Memory.{shown_by, programmed, wiped};
+
     ghost shows = { shown_by };
 
     #[tactic(auto, using(crate::proofs::Shown::shown_count))]
     fn blocks(&self) -> usize {
-        self.layout.record_count(self.bytes)
+        self.record_count()
     }
 
     fn pages_per_block(&self) -> usize {
-        self.layout.pages()
+        self.limits.pages
     }
 
     fn endurance(&self) -> u32 {
-        self.layout.endurance()
+        self.limits.endurance
     }
 
     #[tactic(auto, using(crate::proofs::Shown::read_written))]
@@ -103,7 +72,7 @@ impl<'a> Flash for MemoryPart<'a> {
         let Some(record) = self.record(block) else {
             return 0;
         };
-        usize::from(u16::from_le_bytes(self.bytes_at(record))).min(self.pages_per_block())
+        usize::from(u16::from_le_bytes(self.bytes_at(record))).min(self.limits.pages)
     }
 
     #[tactic(auto, using(crate::proofs::Shown::read_erases))]
@@ -111,14 +80,14 @@ impl<'a> Flash for MemoryPart<'a> {
         let Some(record) = self.record(block) else {
             return 0;
         };
-        u32::from_le_bytes(self.bytes_at(record + ERASES)).min(self.endurance())
+        u32::from_le_bytes(self.bytes_at(record + ERASES)).min(self.limits.endurance)
     }
 
     fn program(&mut self, block: usize, page: usize, bytes: &[u8; 256]) -> Result<(), Refusal>
         ensures answer { result ≡ program_answer (shown_by self.old) block page }
         ensures after { shown_by self.new ≡ either result (appended (shown_by self.old) block bytes.now) (shown_by self.old) }
-        ensures memory { self.new.bytes.now ≡ either result (programmed self.old.bytes.now self.old.layout.pages block page bytes.now) self.old.bytes.now }
-        ensures layout { self.new.layout ≡ self.old.layout }
+        ensures memory { self.new.bytes.now ≡ either result (programmed self.old.bytes.now self.old.limits.pages block page bytes.now) self.old.bytes.now }
+        ensures limits { self.new.limits ≡ self.old.limits }
     {
         let record = self.record_with_page(block, page)?;
         if page != self.written(block) {
@@ -136,7 +105,7 @@ impl<'a> Flash for MemoryPart<'a> {
         ensures buffer { buffer.new ≡ either result (content (shown_by self.old) block page) buffer.old }
         ensures after { shown_by self.new ≡ shown_by self.old }
         ensures memory { self.new.bytes.now ≡ self.old.bytes.now }
-        ensures layout { self.new.layout ≡ self.old.layout }
+        ensures limits { self.new.limits ≡ self.old.limits }
     {
         let record = self.record_with_page(block, page)?;
         if page >= self.written(block) {
@@ -149,15 +118,15 @@ impl<'a> Flash for MemoryPart<'a> {
     fn erase(&mut self, block: usize) -> Result<(), Refusal>
         ensures answer { result ≡ erase_answer (shown_by self.old) block }
         ensures after { shown_by self.new ≡ either result (erased (shown_by self.old) block) (shown_by self.old) }
-        ensures memory { self.new.bytes.now ≡ either result (wiped self.old.bytes.now self.old.layout.pages block) self.old.bytes.now }
-        ensures layout { self.new.layout ≡ self.old.layout }
+        ensures memory { self.new.bytes.now ≡ either result (wiped self.old.bytes.now self.old.limits.pages block) self.old.bytes.now }
+        ensures limits { self.new.limits ≡ self.old.limits }
     {
         let record = self.record(block).ok_or(Refusal::NoSuchPage)?;
         let erases = self.erases(block);
-        if erases >= self.endurance() {
+        if erases >= self.limits.endurance {
             return Err(Refusal::WornOut);
         }
-        let end = record + self.layout.record_size();
+        let end = record + self.record_size();
         self.bytes[record + HEADER..end].fill(ERASED);
         self.bytes[record..record + WRITTEN].fill(0);
         self.bytes[record + ERASES..record + HEADER].copy_from_slice(&(erases + 1).to_le_bytes());

@@ -7,7 +7,7 @@ pub returns-clause-memory : goal.returns-clause-memory
 returns-clause-memory c =
     let p = c.args.self.now in
     let place = rw c.in_ok-record.ensures.ok_part at c.record.ensures.place in
-    erase_writes p.bytes.now p.layout.pages p.layout.endurance c.args.block place.0 _ _ _ _ _ _
+    erase_writes p.bytes.now p.limits.pages p.limits.endurance c.args.block place.0 _ _ _ _ _ _
     place.1 c.record_size.ensures.value c.erases-erases.ensures.value (omega arith)
     (c.fill.ensures.after (λ y h. h)) (c.fill-2.ensures.after (λ y h. h)) (c.copy_from_slice.ensures.after ∙ c.to_le_bytes.ensures)
 
@@ -15,5 +15,5 @@ pub returns-clause-after : goal.returns-clause-after
 returns-clause-after c =
     let p = c.args.self.now in
     let place = rw c.in_ok-record.ensures.ok_part at c.record.ensures.place in
-    ap (λ m. part_in m p.layout.pages p.layout.endurance) (returns-clause-memory c)
-    ∙ shown_erased p.bytes.now p.layout.pages p.layout.endurance c.args.block place.0 (omega arith) (omega arith)
+    ap (λ m. part_in m p.limits.pages p.limits.endurance) (returns-clause-memory c)
+    ∙ shown_erased p.bytes.now p.limits.pages p.limits.endurance c.args.block place.0 (omega arith) (omega arith)

@@ -11,6 +11,6 @@ returns-clause-memory c =
 pub returns-clause-after : goal.returns-clause-after
 returns-clause-after c =
     let p = c.args.self.now in
-    ap (λ m. part_in m p.layout.pages p.layout.endurance) (returns-clause-memory c)
-    ∙ shown_appended p.bytes.now p.layout.pages p.layout.endurance c.args.block c.in_ok-record.ensures.place.0.0 _ _
-    c.in_ok-record.ensures.limited.few c.in_ok-record.ensures.place.0.1 c.told-bytes (omega arith)
+    ap (λ m. part_in m p.limits.pages p.limits.endurance) (returns-clause-memory c)
+    ∙ shown_appended p.bytes.now p.limits.pages p.limits.endurance c.args.block c.in_ok-record.ensures.place.0.0 _ _
+    p.few c.in_ok-record.ensures.place.0.1 c.told-bytes (omega arith)

@@ -1,7 +1,0 @@
-use Rattle.std.proofs.Common.{◌≡◌, ◌++◌, drop}
-use Rattle.memory.specs.Layout.{record_at}
-use Rattle.memory.specs.Memory.{blank_records}
-use Rattle.memory.proofs.layout.Layout.format.Given as goal
-
-abbrev pub invariant-loop-block : goal.invariant-loop-block
-invariant-loop-block l = l.bytes ≡ blank_records l.fn.self.pages l.block ++ drop (record_at l.fn.self.pages l.block) l.initial.bytes
