@@ -6,10 +6,12 @@ use crate::layout::{ERASED, ERASES, HEADER, PAGE, WRITTEN};
 use crate::limits::Limits;
 use flash::{Flash, Refusal};
 
+// The bounds stand here: in `Limits`, beside the `&mut`, they would keep the proofs of a pair or a window over a part from closing.
 #[derive(Drop)]
 pub struct MemoryPart<'a> {
     pub(crate) bytes: &'a mut [u8],
     pub(crate) limits: Limits,
+    ghost some: { 1 ≤ limits.pages },
     ghost few: { limits.pages ≤ 64 },
     ghost lasting: { limits.endurance ≤ 1000000 },
 }
