@@ -30,6 +30,7 @@ pub trait Flash {
     fn erases(&self, block: usize) -> u32
         ensures value { result ≡ erases (shows self.now) block };
 
+    // A page is named by its block and its place there, as a driver of a part is asked for it.
     fn program(&mut self, block: usize, page: usize, bytes: &[u8; 256]) -> Result<(), Refusal>
         ensures answer { result ≡ program_answer (shows self.old) block page }
         ensures after { shows self.new ≡ either result (appended (shows self.old) block bytes.now) (shows self.old) };

@@ -17,7 +17,7 @@ pub enum Refusal {
 }
 
 impl Refusal {
-    // The number that stands for the reason.
+    // The number that stands for the reason. Only an enum itself can be cast, so each enum with numbers has this line.
     pub fn number(self) -> u8
         ensures value { result ≡ number_of self }
     {
@@ -37,7 +37,7 @@ impl Refusal {
     }
 }
 
-// The number, and the words in brackets.
+// The number, and the words in brackets. The layer's refusals have this line too: to share it would take a trait with an impl for each.
 impl fmt::Display for Refusal {
     ghost output = { λ e. Some (refusal_text e) };
 

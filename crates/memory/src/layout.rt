@@ -79,7 +79,7 @@ impl<'a> MemoryPart<'a> {
         let size = self.record_size();
         let count = self.record_count();
         let bytes = &mut *self.bytes;
-        // Of the records as `chunks_exact_mut` gives them a proof would know the lengths alone.
+        // By number: after `chunks_exact_mut` a proof would know how long the memory is, and none of its bytes.
         for block in 0..count {
             let record = block * size;
             bytes[record..record + HEADER].fill(0);

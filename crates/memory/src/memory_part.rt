@@ -22,6 +22,8 @@ impl<'a> MemoryPart<'a> {
     // Makes the memory a part with no page written and no block erased.
     pub fn fresh(bytes: &'a mut [u8], pages: usize, endurance: u32) -> Self
         ensures bytes { result.bytes.now ≡ formatted bytes.old (pages_of pages) }
+        ensures pages { result.limits.pages ≡ pages_of pages }
+        ensures endurance { result.limits.endurance ≡ endurance_of endurance }
         ensures clean { shown_by result ≡ clean_part (record_count bytes.old (pages_of pages)) (pages_of pages) (endurance_of endurance) }
     {
         let limits = Limits::new(pages, endurance);
@@ -33,6 +35,8 @@ impl<'a> MemoryPart<'a> {
     // Takes the memory as the part that it already holds.
     pub fn attach(bytes: &'a mut [u8], pages: usize, endurance: u32) -> Self
         ensures bytes { result.bytes.now ≡ bytes.old }
+        ensures pages { result.limits.pages ≡ pages_of pages }
+        ensures endurance { result.limits.endurance ≡ endurance_of endurance }
         ensures shown { shown_by result ≡ memory_of bytes.old pages endurance }
     {
         MemoryPart {
@@ -85,6 +89,7 @@ impl<'a> Flash for MemoryPart<'a> {
         u32::from_le_bytes(self.bytes_at(record + ERASES)).min(self.limits.endurance)
     }
 
+    // `limits` stands on each call: no other place can say of a call what it leaves.
     fn program(&mut self, block: usize, page: usize, bytes: &[u8; 256]) -> Result<(), Refusal>
         ensures answer { result ≡ program_answer (shown_by self.old) block page }
         ensures after { shown_by self.new ≡ either result (appended (shown_by self.old) block bytes.now) (shown_by self.old) }

@@ -5,6 +5,7 @@ ghost use Rattle.page.specs.Same.{same_bytes};
 const STRIDE: usize = 8;
 
 // Whether two pages hold the same 256 bytes, each byte at the same place. It stops at the first turn that finds a difference.
+// By index, and not by `==`: which bytes are compared is to be read here, since the layer stands on it.
 #[tactic(auto, using(crate::proofs::Same::same_decides, crate::proofs::Same::same_from_agree))]
 pub fn equal(a: &[u8; 256], b: &[u8; 256]) -> bool
     ensures value { result ≡ same_bytes a.now b.now }

@@ -1,4 +1,4 @@
-// Where a block of a pair stands.
+// Where a block of a pair stands. The two parts have types of their own, so each call matches on this; closures would be two for each call.
 
 #[derive(Clone, Copy)]
 pub enum Place {

@@ -2,7 +2,7 @@
 use crate::kind::Kind;
 use crate::refusal::Refusal;
 
-// An accepted write: the rule it took, and the pages that a collection moved for it.
+// An accepted write: the rule it took, and the pages that a collection moved for it. Every kind answers both, as the rules say, and 0 where none was moved.
 #[derive(Clone, Copy, PartialEq, Eq, Debug)]
 pub struct Written {
     pub kind: Kind,
@@ -24,6 +24,7 @@ pub enum Reply {
     // The page that was read.
     Page([u8; 256]),
     // Trim: 1 if the page had content, else 0; collect: the pages moved; scan: the pages that died; save: the image's length.
+    // Trim's answer is a number like the others because its rule says so.
     Number(u32),
     Used(Usage),
 }

@@ -31,7 +31,7 @@ impl Refusal {
     }
 }
 
-// The number, and the words in brackets.
+// The number, and the words in brackets. A part's refusals have this line too: to share it would take a trait with an impl for each.
 impl fmt::Display for Refusal {
     ghost output = { λ e. Some (refusal_text e) };
 
