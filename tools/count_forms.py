@@ -82,7 +82,7 @@ POINTS = {
     '4 equality, order, conversion, printing': lines_with(r'fn (number|words|fmt|at_most|equal|code|from|is_\w+)\b'),
     '4 taken apart by hand': lines_with(r'let \w+ \{|^\s*\w+: _,|\w+\[0\], \w+\[1\]'),
     '5 clauses that stand three times and more': groups(clauses(), 3),
-    '5 what one clause says of another state': lines_with(r'(window_of|pair_of) \(F\.Flash\.shows'),
+    '5 what one clause says of another state': lines_with(r'(window_of|pair_of) \(F\.(Flash\.)?shows'),
     '5 parameters that travel together': groups(parameters(), 3),
     '6 a buffer with numbers beside it': lines_with(r'\w+: &(mut )?\[u8\],? *(at|start|pages)'),
     '7 dyn, boxes, function pointers': lines_with(r'\bdyn |Box<|: fn\('),

@@ -34,6 +34,7 @@ impl Sums {
     {
         let mut a = self.a;
         let mut b = self.b;
+        // By index, as pages are compared: which bytes make a word is to be read here.
         for place in 0..block.len() / 2 {
             let word = u16::from_le_bytes([block[2 * place], block[2 * place + 1]]);
             a += u64::from(word);

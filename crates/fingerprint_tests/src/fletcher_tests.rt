@@ -1,18 +1,13 @@
+use crate::pages::{two_full, with_byte};
 use fingerprint::{Fingerprint, Fletcher, fletcher, worked_examples};
 
 #[test]
 fn pages_of_the_worked_examples(rt: HostRuntime) {
     let zeros = [0; 256];
     assert_eq!(rt; Fletcher.of(&zeros), 0);
-    let mut two_full = zeros;
-    two_full[..2].fill(255);
-    assert_eq!(rt; Fletcher.of(&two_full), 0);
-    let mut one = zeros;
-    one[0] = 1;
-    assert_eq!(rt; Fletcher.of(&one), 8_388_609);
-    let mut last_word = zeros;
-    last_word[254] = 1;
-    assert_eq!(rt; Fletcher.of(&last_word), 65_537);
+    assert_eq!(rt; Fletcher.of(&two_full()), 0);
+    assert_eq!(rt; Fletcher.of(&with_byte(zeros, 0, 1)), 8_388_609);
+    assert_eq!(rt; Fletcher.of(&with_byte(zeros, 254, 1)), 65_537);
 }
 
 #[test]

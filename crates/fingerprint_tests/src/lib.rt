@@ -6,6 +6,8 @@ mod fletcher_tests;
 #[cfg(test)]
 mod page_tests;
 #[cfg(test)]
+mod pages;
+#[cfg(test)]
 mod sample_tests;
 mod sharing;
 #[cfg(test)]

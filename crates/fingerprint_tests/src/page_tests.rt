@@ -1,5 +1,4 @@
-ghost use Rattle.std.specs.Prelude.{◌<◌};
-
+use crate::pages::{two_full, with_byte};
 use page::equal;
 use std::array;
 
@@ -34,17 +33,5 @@ fn each_byte_counts(rt: HostRuntime) {
 // One number, and two pages: only the comparison tells them apart.
 #[test]
 fn pages_with_one_fingerprint(rt: HostRuntime) {
-    let zeros = [0; 256];
-    let mut two_full = zeros;
-    two_full[..2].fill(255);
-    assert!(rt; !equal(&zeros, &two_full));
-}
-
-// The page with another byte at the place.
-fn with_byte(page: [u8; 256], place: usize, byte: u8) -> [u8; 256]
-    requires { place < 256 }
-{
-    let mut other = page;
-    other[place] = byte;
-    other
+    assert!(rt; !equal(&[0; 256], &two_full()));
 }

@@ -1,3 +1,4 @@
+use crate::pages::{two_full, with_byte};
 use crate::sharing::share_a_number;
 use fingerprint::{Fletcher, Sample};
 
@@ -5,12 +6,9 @@ use fingerprint::{Fletcher, Sample};
 #[test]
 fn each_kind_has_its_own_pairs(rt: HostRuntime) {
     let zeros = [0; 256];
-    let mut two_full = zeros;
-    two_full[..2].fill(255);
-    assert!(rt; share_a_number(&Fletcher, &zeros, &two_full));
-    assert!(rt; !share_a_number(&Sample, &zeros, &two_full));
-    let mut last = zeros;
-    last[255] = 1;
+    assert!(rt; share_a_number(&Fletcher, &zeros, &two_full()));
+    assert!(rt; !share_a_number(&Sample, &zeros, &two_full()));
+    let last = with_byte(zeros, 255, 1);
     assert!(rt; !share_a_number(&Fletcher, &zeros, &last));
     assert!(rt; share_a_number(&Sample, &zeros, &last));
 }

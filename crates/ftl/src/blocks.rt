@@ -8,7 +8,7 @@ use least::Counted;
 // The block with its erase count.
 pub(crate) fn wear_of<F: Flash>(part: &F, block: usize) -> Counted<usize>
     ensures block { result.item ≡ block }
-    ensures erases { result.count ≡ erases (F.Flash.shows part.now) block }
+    ensures erases { result.count ≡ erases (F.shows part.now) block }
 {
     Counted {
         item: block,

@@ -26,7 +26,7 @@ impl Order for Held {
 // An entry of a store: none where it is free, which comes first, or held.
 pub type Entry = Option<Held>;
 
-// The place of a coldest entry, or none where there are no entries.
+// The place of a coldest entry, or none where there are no entries: the search, by this order's name.
 pub fn coldest(entries: &[Entry]) -> Option<usize>
     ensures answer { LeastOrNone colder entries.now result }
 {

@@ -1,4 +1,4 @@
-// Two record kinds of different shape that join the search for a least record, the search at each by the name of its order, and tests of the search over them.
+// Two record kinds of different shape that join the search for a least record, a search of each kind, and tests.
 #![tactic(auto)]
 
 mod block;

@@ -38,7 +38,7 @@ impl<'a> MemoryPart<'a> {
         (self.bytes.len() / self.record_size()).min(MOST_BLOCKS)
     }
 
-    // Where the record of the block begins, if there is one.
+    // Where the record of the block begins, if there is one. With `then` the proof did not close.
     #[tactic(auto, using(crate::proofs::Shown::record_shown))]
     pub(crate) fn record(&self, block: usize) -> Option<usize>
         ensures place { SomeIff result (block < length (shown_by self.now).blocks) (record_at self.now.limits.pages block) }
@@ -51,7 +51,7 @@ impl<'a> MemoryPart<'a> {
         }
     }
 
-    // Where the record of the block begins, if it has the page.
+    // Where the record of the block begins, if it has the page. With `filter` the proof did not close.
     pub(crate) fn record_with_page(&self, block: usize, page: usize) -> Result<usize, Refusal>
         ensures place { OkIff result ((block < length (shown_by self.now).blocks) × (page < (shown_by self.now).per_block)) (record_at self.now.limits.pages block) }
         ensures within { IfOk result (λ at. at + record_size self.now.limits.pages ≤ length self.now.bytes.now) }

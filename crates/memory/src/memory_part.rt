@@ -6,7 +6,7 @@ use crate::layout::{ERASED, ERASES, HEADER, PAGE, WRITTEN};
 use crate::limits::Limits;
 use flash::{Flash, Refusal};
 
-// The bounds stand here: in `Limits`, beside the `&mut`, they would keep the proofs of a pair or a window over a part from closing.
+// The bounds stand here: in `Limits`, beside the `&mut`, code that has this part as a type argument, as a pair or a window of it, would get no proof.
 #[derive(Drop)]
 pub struct MemoryPart<'a> {
     pub(crate) bytes: &'a mut [u8],
@@ -19,7 +19,8 @@ pub struct MemoryPart<'a> {
 impl<'a> MemoryPart<'a> {
     ghost use Rattle.memory.specs.Memory.{shown_by, memory_of, formatted, clean_part};
 
-    // Makes the memory a part with no page written and no block erased.
+    // Makes the memory a part with no page written and no block erased. Pages and endurance are any two numbers; `Limits` has only those that count.
+    #[tactic(auto, using(crate::proofs::Clean::shown_clean))]
     pub fn fresh(bytes: &'a mut [u8], pages: usize, endurance: u32) -> Self
         ensures bytes { result.bytes.now ≡ formatted bytes.old (pages_of pages) }
         ensures pages { result.limits.pages ≡ pages_of pages }
@@ -73,6 +74,7 @@ impl<'a> Flash for MemoryPart<'a> {
         self.limits.endurance
     }
 
+    // Here and in `erases` the proof did not close with `map_or`.
     #[tactic(auto, using(crate::proofs::Shown::read_written))]
     fn written(&self, block: usize) -> usize {
         let Some(record) = self.record(block) else {
@@ -89,7 +91,7 @@ impl<'a> Flash for MemoryPart<'a> {
         u32::from_le_bytes(self.bytes_at(record + ERASES)).min(self.limits.endurance)
     }
 
-    // `limits` stands on each call: no other place can say of a call what it leaves.
+    // `limits` stands on each call for a reader of the bytes; `after` comes to the same, as what is shown has both numbers.
     fn program(&mut self, block: usize, page: usize, bytes: &[u8; 256]) -> Result<(), Refusal>
         ensures answer { result ≡ program_answer (shown_by self.old) block page }
         ensures after { shown_by self.new ≡ either result (appended (shown_by self.old) block bytes.now) (shown_by self.old) }

@@ -104,11 +104,12 @@ impl<F: Flash, G: Flash> Flash for Pair<F, G> {
 
     #[tactic(auto, using(crate::proofs::Calls::query_steps))]
     fn erases(&self, block: usize) -> u32 {
-        match self.place(block) {
-            Some(Place::First(under)) => self.first.erases(under).min(self.endurance()),
-            Some(Place::Second(under)) => self.second.erases(under).min(self.endurance()),
+        let own = match self.place(block) {
+            Some(Place::First(under)) => self.first.erases(under),
+            Some(Place::Second(under)) => self.second.erases(under),
             None => 0,
-        }
+        };
+        own.min(self.endurance())
     }
 
     // `first` and `second` say what the two parts show afterwards, also of blocks that the pair does not show: only the one block's part changes.

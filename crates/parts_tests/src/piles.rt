@@ -5,12 +5,13 @@ use memory::MemoryPart;
 use pair::Pair;
 use window::Window;
 
-// Two pages to a block: a record of 520 bytes.
+// Pages to a block.
 const PAGES: usize = 2;
 
-const THREE: usize = 1560;
+// A record: 8 bytes, and 256 for each page.
+const ONE: usize = 8 + 256 * PAGES;
 
-const ONE: usize = 520;
+const THREE: usize = 3 * ONE;
 
 const EXPECTED: [Result<(), u8>; 9] = [
     Err(16),

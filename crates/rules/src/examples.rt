@@ -25,6 +25,7 @@ pub struct SizeTable {
 }
 
 // The worked sizes and images. Its contract also states the worked life.
+#[tactic(auto, using(crate::proofs::Worked::worked_sizes, crate::proofs::Worked::example_life))]
 pub fn worked_sizes() -> SizeTable
     ensures one_page_too_many { sizes_answer result.one_page_too_many ≡ size_refusal 64 64 1 }
     ensures most_host_pages { sizes_answer result.most_host_pages ≡ size_refusal 65 63 4031 }

@@ -39,7 +39,7 @@ pub enum Refusal {
 }
 
 impl Refusal {
-    // The number that stands for the reason. Only an enum itself can be cast, so each enum with numbers has this line.
+    // The number that stands for the reason. Only an enum itself can be cast, so each has this line; by name, as `u8::from` would not say which number.
     pub fn number(self) -> u8
         ensures value { result ≡ refusal_number self }
     {

@@ -82,7 +82,8 @@ impl<F: Flash> Flash for Window<F> {
             .map_or(0, |under| self.below.erases(under))
     }
 
-    // `stays` says that no call, and no refusal, moves the window. `below` says what the hidden blocks are afterwards: untouched,
+    // `stays` says that no call, and no refusal, moves the window; it stands on each call, as what is shown does not fix the two
+    // numbers. `below` says what the hidden blocks are afterwards: untouched,
     // as only the one block below changes.
     #[tactic(auto, using(crate::proofs::Seen::seen_appended))]
     fn program(&mut self, block: usize, page: usize, bytes: &[u8; 256]) -> Result<(), Refusal>
