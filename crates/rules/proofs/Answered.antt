@@ -20,6 +20,7 @@ use Rattle.rules.specs.Answers.{Answer, answer_of}
 use Rattle.rules.specs.Runs.{Saves}
 use Rattle.rules.specs.Runs.Call.{write, read, trim, collect, scan, usage, save}
 use Rattle.rules.specs.Theorems.{EveryCallAnswered}
+use Rattle.rules.proofs.Buffers.{some_read, some_save}
 use Rattle.rules.proofs.Tally.{tally_find, tally_pos}
 use Rattle.rules.proofs.Moving.{Mid, mid}
 use Rattle.rules.proofs.Scanning.{merged_mid, merged_pages}
@@ -211,10 +212,12 @@ answered reply rule (r, t, p) = (answer_of reply r, t, (r, refl, p))
 
 pub every_call_answered : EveryCallAnswered
 every_call_answered print s (write n x) h = answered Wrote (Writes print s n x) (write_some print s n x h)
-every_call_answered print s (read n len) h = answered Page (Reads s n len) (read_some s n len)
+every_call_answered print s (read n len) h =
+    let (r, t, rule) = read_some s n len in (answer_of Page r, t, (r, refl, some_read s n len r t rule))
 every_call_answered print s (trim n) h = answered Number (Trims s n) (trim_some s n)
 every_call_answered print s collect h = answered Number (Collects s) (collect_some print s h)
 every_call_answered print s scan h =
     let r = merges_some print (live_pages s) s (mid print s h) (omega arith) in answered Number (Scans s) (Ok r.0, r.1, r.2)
 every_call_answered print s usage h = answered Used (Asks s) (Ok _, s, (refl, refl, refl, refl))
-every_call_answered print s (save len) h = answered Number (Saves s len) (save_some s len)
+every_call_answered print s (save len) h =
+    let (r, t, rule) = save_some s len in (answer_of Number r, t, (r, refl, some_save s len r t rule))

@@ -17,6 +17,7 @@ use Rattle.rules.specs.Runs.{Saves}
 use Rattle.rules.specs.Runs.Call.{write, read, trim, collect, scan, usage, save}
 use Rattle.rules.specs.Promise.{contents, different}
 use Rattle.rules.specs.Theorems.{AnswersDecided}
+use Rattle.rules.proofs.Buffers.{read_rule, save_rule}
 use Rattle.rules.proofs.Moving.{mid}
 use Rattle.rules.proofs.Scanning.{merges_scanned}
 use Rattle.rules.proofs.Counting.{pages_exact}
@@ -49,7 +50,7 @@ refusal_back FlashState = refl
 refusal_back NoMemory = refl
 
 -- Refusals with one number are one.
-refusal_same : (d e : Refusal) → refusal_number d ≡ refusal_number e → d ≡ e
+pub refusal_same : (d e : Refusal) → refusal_number d ≡ refusal_number e → d ≡ e
 refusal_same d e same = sym (refusal_back d) ∙ ap refusal_of same ∙ refusal_back e
 
 -- A rule with one result: its values are the same, none comes beside a refusal, and its refusals have one number.
@@ -169,9 +170,11 @@ one_save s len = record {
 
 pub answers_decided : AnswersDecided
 answers_decided print s (write n x) a b t u h p p' = decided Wrote (Writes print s n x) (one_write print s n x) a b t u p p'
-answers_decided print s (read n len) a b t u h p p' = decided Page (Reads s n len) (one_read s n len) a b t u p p'
+answers_decided print s (read n len) a b t u h (q, is, p) (r, is', p') =
+    decided Page (Reads s n len) (one_read s n len) a b t u (q, is, read_rule s n len q t p) (r, is', read_rule s n len r u p')
 answers_decided print s (trim n) a b t u h p p' = decided Number (Trims s n) (one_trim s n) a b t u p p'
 answers_decided print s collect a b t u h p p' = decided Number (Collects s) (one_collect s) a b t u p p'
 answers_decided print s scan a b t u h p p' = decided Number (Scans s) (one_scan print s h) a b t u p p'
 answers_decided print s usage a b t u h p p' = decided Used (Asks s) (one_usage s) a b t u p p'
-answers_decided print s (save len) a b t u h p p' = decided Number (Saves s len) (one_save s len) a b t u p p'
+answers_decided print s (save len) a b t u h (q, is, p) (r, is', p') =
+    decided Number (Saves s len) (one_save s len) a b t u (q, is, save_rule s len q t p) (r, is', save_rule s len r u p')

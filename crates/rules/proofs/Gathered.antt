@@ -9,6 +9,7 @@ use Rattle.rules.specs.Answers.{Answer, answer_of, is_refusal}
 use Rattle.rules.specs.Runs.{Call, Saves, Step}
 use Rattle.rules.specs.Runs.Call.{write, read, trim, collect, scan, usage, save}
 use Rattle.rules.specs.Theorems.{AlwaysStands, AnswersAsPageMap, KeepsPages, HasWhatRulesNeed}
+use Rattle.rules.proofs.Buffers.{read_rule, save_rule}
 use Rattle.rules.proofs.Steps.{step_outcome}
 use Rattle.rules.proofs.Made.{made_stands}
 use Rattle.rules.proofs.Lives.{other_call}
@@ -30,12 +31,12 @@ refused_result reply (Err e) a T is bad rule = (e, rule)
 
 unchanged : (print : Bytes → ℕ) (s : State) (c : Call) (a : Answer) (t : State) → Step print s c a t → is_refusal a ≡ true → t ≡ s
 unchanged print s (write n x) a t (r, is, rule) bad = (refused_result Wrote r a (λ y. Writes print s n x y t) is bad rule).1.0
-unchanged print s (read n len) a t (r, is, rule) bad = (refused_result Page r a (λ y. Reads s n len y t) is bad rule).1.0
+unchanged print s (read n len) a t (r, is, rule) bad = (refused_result Page r a (λ y. Reads s n len y t) is bad (read_rule s n len r t rule)).1.0
 unchanged print s (trim n) a t (r, is, rule) bad = (refused_result Number r a (λ y. Trims s n y t) is bad rule).1.0
 unchanged print s collect a t (r, is, rule) bad = (refused_result Number r a (λ y. Collects s y t) is bad rule).1.0
 unchanged print s scan a t (r, is, rule) bad = absurd (refused_result Number r a (λ y. Scans s y t) is bad rule).1
 unchanged print s usage a t (r, is, rule) bad = absurd (refused_result Used r a (λ y. Asks s y t) is bad rule).1
-unchanged print s (save len) a t (r, is, rule) bad = (refused_result Number r a (λ y. Saves s len y t) is bad rule).1.0
+unchanged print s (save len) a t (r, is, rule) bad = (refused_result Number r a (λ y. Saves s len y t) is bad (save_rule s len r t rule)).1.0
 
 pub keeps_pages : KeepsPages
 keeps_pages = record {

@@ -19,6 +19,7 @@ pub mod Distinct
 pub mod Counting
 pub mod Readying
 pub mod PageMaps
+pub mod Buffers
 pub mod Steps
 pub mod Made
 pub mod Lives
@@ -28,3 +29,4 @@ pub mod Gathered
 pub mod Worked
 pub mod Choosing
 pub mod Answered
+pub mod Makings

@@ -42,17 +42,17 @@ pub other_call : (c : Call) (a : Answer) (m after : List (Option Bytes)) → is_
 other_call (write n x) a m after off p = cc
 other_call (read n len) a m after off p = cc
 other_call (trim n) a m after off p = cc
-other_call collect a m after off p = ⊎_elim (λ q. q.1) (λ q. q.1) p
-other_call scan a m after off p = ⊎_elim (λ q. q.1) (λ q. q.1) p
-other_call usage a m after off p = ⊎_elim (λ q. q.1) (λ q. q.1) p
-other_call (save len) a m after off p = ⊎_elim (λ q. q.1) (λ q. q.1) p
+other_call collect a m after off p = ⊎_elim (λ q. q.2) (λ q. q.1) p
+other_call scan a m after off p = ⊎_elim (λ q. q.2) (λ q. q.1) p
+other_call usage a m after off p = ⊎_elim (λ q. q.2) (λ q. q.1) p
+other_call (save len) a m after off p = ⊎_elim (λ q. q.2) (λ q. q.1) p
 
 -- One call of the host on two devices with the same pages.
 host_pair : (c d : Call) (a b : Answer) (m m₁ n n₁ : List (Option Bytes)) → m ≡ n → is_host c ≡ true → is_host d ≡ true → Plain m c a m₁ → Plain n d b n₁
     → c ≡ d → (seen a ≡ refused 3 → ⊥) → (seen b ≡ refused 3 → ⊥) → (seen a ≡ seen b) × (m₁ ≡ n₁)
 host_pair c d a b m m₁ n n₁ same on on' p q calls fine fine' =
-    ⊎_elim (λ bad. absurd (fine bad.0))
-    (λ x. ⊎_elim (λ bad. absurd (fine' bad.0))
+    ⊎_elim (λ bad. absurd (fine bad.1))
+    (λ x. ⊎_elim (λ bad. absurd (fine' bad.1))
     (λ y. (
       x.0 on ∙ ap (plain_answer m) calls ∙ ap (λ v. plain_answer v d) same ∙ sym (y.0 on'),
       x.1 ∙ ap (plain_after m) calls ∙ ap (λ v. plain_after v d) same ∙ sym y.1,

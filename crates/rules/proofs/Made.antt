@@ -140,4 +140,4 @@ loaded_stands print s sound l =
 
 pub made_stands : (print : Bytes → ℕ) (s : State) → Made print s → Stands print s
 made_stands print s (inl (p, host, sound, (accepts, is))) = subst (Stands print) (sym is) (formatted_stands print p host sound accepts)
-made_stands print s (inr (sound, l)) = loaded_stands print s sound l
+made_stands print s (inr (p, image, sound, (same, words, shared, l))) = loaded_stands print s (subst Sound (sym same) sound) l

@@ -25,6 +25,7 @@ use Rattle.rules.proofs.Storing.{content_none, stored_stands, stored_hosts, stor
 use Rattle.rules.proofs.Sharing.{lifted_mid, lifted_entry, lifted_reach, lifted_hosts, pointed_mid, pointed_part, pointed_hosts, pointed_held, pointed_other}
 use Rattle.rules.proofs.Scanning.{merges_scanned}
 use Rattle.rules.proofs.Counting.{pages_exact}
+use Rattle.rules.proofs.Buffers.{read_rule, save_rule}
 use Rattle.rules.proofs.Readying.{ready_after}
 use Rattle.rules.proofs.PageMaps.{map_length, map_at, map_same, map-set, map_past}
 
@@ -56,7 +57,7 @@ write_refused print s n x e t h (is, why) =
         inr (λ host. grind (arith, nat_tests, four, out, map_length s), grind (arith, nat_tests, map_past s n (Some x) out))
     plain (inr (inl (five, inside, short))) =
         inr (λ host. grind (arith, nat_tests, five, inside, short, map_length s), grind (arith, nat_tests, short))
-    plain (inr (inr why3)) = inl (ap refused why3.0, refl)
+    plain (inr (inr why3)) = inl (refl, ap refused why3.0, refl)
 
 -- An accepted write sets its page.
 wrote : (s t : State) (n : ℕ) (x : Bytes) (w : Written) → n < host_pages s → length x ≡ 256 → page_map t ≡ set (page_map s) n (Some x)
@@ -259,9 +260,9 @@ save_outcome print s len (Err e) t h (is, eight, short) =
 pub step_outcome : (print : Bytes → ℕ) (s : State) (c : Call) (a : Answer) (t : State) → Stands print s → Step print s c a t
     → Outcome print s c a t
 step_outcome print s (write n x) a t h (r, is, rule) = rw is (write_outcome print s n x r t h rule)
-step_outcome print s (read n len) a t h (r, is, rule) = rw is (read_outcome print s n len r t h rule)
+step_outcome print s (read n len) a t h (r, is, rule) = rw is (read_outcome print s n len r t h (read_rule s n len r t rule))
 step_outcome print s (trim n) a t h (r, is, rule) = rw is (trim_outcome print s n r t h rule)
 step_outcome print s collect a t h (r, is, rule) = rw is (collect_outcome print s r t h rule)
 step_outcome print s scan a t h (r, is, rule) = rw is (scan_outcome print s r t h rule)
 step_outcome print s usage a t h (r, is, rule) = rw is (usage_outcome print s r t h rule)
-step_outcome print s (save len) a t h (r, is, rule) = rw is (save_outcome print s len r t h rule)
+step_outcome print s (save len) a t h (r, is, rule) = rw is (save_outcome print s len r t h (save_rule s len r t rule))

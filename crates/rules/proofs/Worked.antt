@@ -19,6 +19,7 @@ use Rattle.rules.specs.Answers.{Answer}
 use Rattle.rules.specs.Runs.{Step, Run}
 use Rattle.rules.specs.Runs.Call.{write, read, collect, usage}
 use Rattle.rules.specs.Examples.{fresh_part, example_start, WorkedSizes, wrote_as, example_history, ExampleLife, SecondWriteDecided}
+use Rattle.rules.proofs.Buffers.{some_read}
 use Rattle.rules.proofs.Crossing.{name_entry}
 use Rattle.rules.proofs.Entering.{entered_cases, entered_entry}
 use Rattle.rules.proofs.Made.{get_d_all, empty_store}
@@ -275,7 +276,7 @@ module _ (print : Bytes → ℕ) (Z H O : Bytes) (z_long : length Z ≡ 256) (h_
   )
 
   z_read : Step print (after_collect print Z O) (read 2 256) (Ok (Page Z)) (after_collect print Z O)
-  z_read = (Ok Z, refl, (refl, lit< tt, refl, refl))
+  z_read = (Ok Z, refl, some_read (after_collect print Z O) 2 256 (Ok Z) (after_collect print Z O) (refl, lit< tt, refl, refl))
 
   later : Run print (after_o print Z H O)
       ((usage, Ok (Used (record { live = 2; dead = 1; unwritten = 3 })))

@@ -1,5 +1,6 @@
 -- The rule of each call: which answer it gives in a state, and the state after it.
 use Rattle.std.specs.Prelude.{◌≡◌, ℕ, zero, suc, ◌+◌, ◌*◌, ◌<◌, ◌≤◌, Bool, true, cond, ◌⊎◌, List, [], ◌∷◌, ◌++◌, length, is_some, Some, None, Ok, Err, Option, Result, ◌≢◌}
+use Rattle.std.specs.Result.{result_unwrap_or}
 use Rattle.flash.specs.Part.{erases}
 use Rattle.rules.specs.declared.refusal.Refusal.{Refusal}
 use Rattle.rules.specs.declared.kind.Kind.{Kind}
@@ -128,6 +129,10 @@ Writes print s n x (Err e) t = (t ≡ s) × (NoHostPage s n e ⊎ (WrongLength s
 abbrev pub Reads : State → ℕ → ℕ → Result Bytes Refusal → State → Type 0
 Reads s n len (Ok x) t = (t ≡ s) × (n < host_pages s) × (len ≡ 256) × (held s n ≡ Some x)
 Reads s n len (Err e) t = (t ≡ s) × (NoHostPage s n e ⊎ (WrongLength s n len e ⊎ EmptyPage s n len e))
+
+-- Read with the bytes of the buffer, all of them before and after: the page where it answers, and what was there where it refuses.
+abbrev pub ReadsInto : State → ℕ → Bytes → Result Bytes Refusal → State → Bytes → Type 0
+ReadsInto s n before r t after = Reads s n (length before) r t × (after ≡ result_unwrap_or r before)
 
 -- Trim empties host page n, and answers 1 if it had content, else 0; or it refuses.
 abbrev pub Trims : State → ℕ → Result ℕ Refusal → State → Type 0

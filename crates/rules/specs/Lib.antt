@@ -4,6 +4,7 @@ pub mod State
 pub mod Tables
 pub mod Store
 pub mod Calls
+pub mod Devices
 pub mod Making
 pub mod Stands
 pub mod Image

@@ -4,6 +4,8 @@ use Rattle.flash.specs.Part.{Block, Part, Sound, written, erases}
 use Rattle.rules.specs.declared.refusal.Refusal.{Refusal}
 use Rattle.rules.specs.Numbers.{refusal_number}
 use Rattle.rules.specs.State.{Bytes, Entry, State, no_page, flash_pages, block_count, host_pages, content, names, is_written, in_use, hotness, is_clean, is_part_written}
+use Rattle.rules.specs.Devices.{Device}
+use Rattle.rules.specs.Devices.Device.{made, unmade}
 use Rattle.rules.specs.Store.{Entered, Offers}
 use Rattle.rules.specs.Tables.{with_store}
 use Rattle.rules.specs.Calls.{NoneOffered, below}
@@ -61,10 +63,18 @@ BlockWornOut p host e =
     SizesFit p host × (refusal_number e ≡ 3)
     × ((b : ℕ) × (b < length p.blocks) × (written p b ≢ 0) × (p.endurance ≤ erases p b))
 
--- Format hands back the state, or refuses.
-abbrev pub Formats : Part → ℕ → Result State Refusal → Type 0
-Formats p host (Ok s) = FormatAccepts p host × (s ≡ formatted p host)
-Formats p host (Err e) = SizesRefused p host e ⊎ BlockWornOut p host e
+-- Refused with 255: there is no memory for the tables, of a making that would be accepted if there were.
+abbrev pub OutOfMemory : Type 0 → Refusal → Type 0
+OutOfMemory accepts e = (refusal_number e ≡ 255) × accepts
+
+-- Format is refused.
+abbrev pub FormatRefused : Part → ℕ → Refusal → Type 0
+FormatRefused p host e = SizesRefused p host e ⊎ (BlockWornOut p host e ⊎ OutOfMemory (FormatAccepts p host) e)
+
+-- Format always hands back a device: a made one in the formatted state, or an unmade one whose part is as it was.
+abbrev pub Formats : Part → ℕ → Device → Type 0
+Formats p host (made s) = FormatAccepts p host × (s ≡ formatted p host)
+Formats p host (unmade e q) = (q ≡ p) × FormatRefused p host e
 
 -- Words and entries agree with a part. `f` is what the namers hold, `is_written` which flash pages are written, and `host`
 -- the number of host pages. A word names no free entry; an entry names a page or none; no flash page has two namers; a named
@@ -99,9 +109,13 @@ Refilled print s (q ∷ qs) store after =
     (x : Bytes) × (next : List (Option Entry)) × (content s.part q ≡ Some x) × Refills print s q x store next
     × Refilled print s qs next after
 
+-- What an image says of the tables: the mapping words and the shared entries that it carries.
+pub record ImageTables : Type 0 where
+  pub words : List ℕ
+  pub shared : List ℕ
+
 -- A state that load brings back: sizes that fit, words and entries that agree with the flash, and a store refilled from
--- the pages in use. Not yet whole: which bytes say which words and entries, and which fault is found in which bytes, is not
--- said here before the bytes of an image are defined.
+-- the pages in use.
 pub record Loaded (print : Bytes → ℕ) (s : State) : Type 0 where
   pub sizes : SizesFit s.part (host_pages s)
   pub entries : length s.shared ≡ flash_pages s
@@ -109,8 +123,15 @@ pub record Loaded (print : Bytes → ℕ) (s : State) : Type 0 where
   pub blocks : BlocksStand s
   pub filled : Refilled print s (below (in_use s) (flash_pages s)) (replicate 256 None) s.store
 
--- A device is made by an accepted format or load of a well-formed part.
+-- Load always hands back a device: a made one with the part as it was and the words and entries that the image says, or an unmade
+-- one whose part is as it was. Not yet whole: which bytes say which words and entries, and which fault is found in which bytes, is
+-- not said here before the bytes of an image are defined; then this is a relation between the part, those bytes, the fault and the device.
+abbrev pub Loads : (Bytes → ℕ) → Part → ImageTables → Device → Type 0
+Loads print p image (made s) = (s.part ≡ p) × (s.words ≡ image.words) × (s.shared ≡ image.shared) × Loaded print s
+Loads print p image (unmade e q) = q ≡ p
+
+-- A device in state s is made by an accepted format or load of a well-formed part.
 abbrev pub Made : (Bytes → ℕ) → State → Type 0
 Made print s =
-    ((p : Part) × (host : ℕ) × Sound p × Formats p host (Ok s))
-    ⊎ (Sound s.part × Loaded print s)
+    ((p : Part) × (host : ℕ) × Sound p × Formats p host (made s))
+    ⊎ ((p : Part) × (image : ImageTables) × Sound p × Loads print p image (made s))

@@ -1,5 +1,5 @@
 -- The layer as a plain page map: a list of pages, each empty or a content, and nothing else.
-use Rattle.std.specs.Prelude.{◌≡◌, true, cond, ◌⊎◌, List, length, is_some, Some, None, Option, ◌==◌, nat_lt, slice_index_or, slice_set}
+use Rattle.std.specs.Prelude.{◌≡◌, Bool, true, false, cond, ◌⊎◌, List, length, is_some, Some, None, Option, ◌==◌, nat_lt, slice_index_or, slice_set}
 use Rattle.rules.specs.Answers.{Answer}
 use Rattle.rules.specs.State.{Bytes}
 use Rattle.rules.specs.Runs.{Call}
@@ -35,7 +35,17 @@ plain_after m scan = m
 plain_after m usage = m
 plain_after m (save len) = m
 
--- A call with its answer is as the page map has it: refused with 3 and nothing changed, or answered and changed as above.
+-- Is a call a write? Only a write may find the flash worn out: a read and a trim need no room on it.
+abbrev pub is_write : Call → Bool
+is_write (write n x) = true
+is_write (read n len) = false
+is_write (trim n) = false
+is_write collect = false
+is_write scan = false
+is_write usage = false
+is_write (save len) = false
+
+-- A call with its answer is as the page map has it: a write refused with 3 and nothing changed, or answered and changed as above.
 abbrev pub Plain : List (Option Bytes) → Call → Answer → List (Option Bytes) → Type 0
 Plain m c a after =
-    ((seen a ≡ refused 3) × (after ≡ m)) ⊎ ((is_host c ≡ true → seen a ≡ plain_answer m c) × (after ≡ plain_after m c))
+    ((is_write c ≡ true) × (seen a ≡ refused 3) × (after ≡ m)) ⊎ ((is_host c ≡ true → seen a ≡ plain_answer m c) × (after ≡ plain_after m c))
