@@ -30,3 +30,4 @@ pub mod Worked
 pub mod Choosing
 pub mod Answered
 pub mod Makings
+pub mod TheoremsHold
