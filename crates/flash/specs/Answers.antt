@@ -2,7 +2,7 @@
 use Rattle.std.specs.Prelude.{ℕ, cond, List, ◌++◌, length, Ok, Err, codes, decimal, Result, ◌==◌, nat_lt}
 use Rattle.flash.specs.declared.refusal.Refusal.{Refusal}
 use Rattle.flash.specs.declared.refusal.Refusal.TheVariants.{NoSuchPage, NotNext, Unwritten, WornOut}
-use Rattle.flash.specs.Part.{Part, written, erases}
+use Rattle.flash.specs.Part.{Part, written, erases, appended, erased}
 
 -- The number of each refusal.
 abbrev pub number_of : Refusal → ℕ
@@ -52,3 +52,11 @@ erase_answer p b =
 abbrev pub either : {X : Type 0} → Answer → X → X → X
 either (Ok u) new old = new
 either (Err e) new old = old
+
+-- The part after a program of block b with the bytes x that was answered r.
+abbrev pub after_program : Answer → Part → ℕ → List ℕ → Part
+after_program r p b x = either r (appended p b x) p
+
+-- The part after an erase of block b that was answered r.
+abbrev pub after_erase : Answer → Part → ℕ → Part
+after_erase r p b = either r (erased p b) p

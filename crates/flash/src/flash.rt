@@ -1,7 +1,7 @@
 // The interface of a flash part. Whatever stands above a part knows it by `shows` alone.
 ghost use Rattle.std.specs.Prelude.{◌≡◌, length};
-ghost use Rattle.flash.specs.Part.{Part, Sound, written, erases, content, appended, erased};
-ghost use Rattle.flash.specs.Answers.{program_answer, read_answer, erase_answer, either};
+ghost use Rattle.flash.specs.Part.{Part, Sound, written, erases, content};
+ghost use Rattle.flash.specs.Answers.{program_answer, read_answer, erase_answer, either, after_program, after_erase};
 
 use crate::refusal::Refusal;
 
@@ -33,7 +33,7 @@ pub trait Flash {
     // A page is named by its block and its place there, as a driver of a part is asked for it.
     fn program(&mut self, block: usize, page: usize, bytes: &[u8; 256]) -> Result<(), Refusal>
         ensures answer { result ≡ program_answer (shows self.old) block page }
-        ensures after { shows self.new ≡ either result (appended (shows self.old) block bytes.now) (shows self.old) };
+        ensures after { shows self.new ≡ after_program result (shows self.old) block bytes.now };
 
     // A driver needs the bus, and a part may keep a record of its reads, hence `&mut`; what it shows stays.
     fn read(&mut self, block: usize, page: usize, buffer: &mut [u8; 256]) -> Result<(), Refusal>
@@ -43,5 +43,5 @@ pub trait Flash {
 
     fn erase(&mut self, block: usize) -> Result<(), Refusal>
         ensures answer { result ≡ erase_answer (shows self.old) block }
-        ensures after { shows self.new ≡ either result (erased (shows self.old) block) (shows self.old) };
+        ensures after { shows self.new ≡ after_erase result (shows self.old) block };
 }

@@ -55,8 +55,8 @@ impl<'a> MemoryPart<'a> {
 }
 
 impl<'a> Flash for MemoryPart<'a> {
-    ghost use Rattle.flash.specs.Part.{content, appended, erased};
-    ghost use Rattle.flash.specs.Answers.{program_answer, read_answer, erase_answer, either};
+    ghost use Rattle.flash.specs.Part.{content};
+    ghost use Rattle.flash.specs.Answers.{program_answer, read_answer, erase_answer, either, after_program, after_erase};
     ghost use Rattle.memory.specs.Memory.{shown_by, programmed, wiped};
 
     ghost shows = { shown_by };
@@ -94,7 +94,7 @@ impl<'a> Flash for MemoryPart<'a> {
     // `limits` stands on each call for a reader of the bytes; `after` comes to the same, as what is shown has both numbers.
     fn program(&mut self, block: usize, page: usize, bytes: &[u8; 256]) -> Result<(), Refusal>
         ensures answer { result ≡ program_answer (shown_by self.old) block page }
-        ensures after { shown_by self.new ≡ either result (appended (shown_by self.old) block bytes.now) (shown_by self.old) }
+        ensures after { shown_by self.new ≡ after_program result (shown_by self.old) block bytes.now }
         ensures memory { self.new.bytes.now ≡ either result (programmed self.old.bytes.now self.old.limits.pages block page bytes.now) self.old.bytes.now }
         ensures limits { self.new.limits ≡ self.old.limits }
     {
@@ -126,7 +126,7 @@ impl<'a> Flash for MemoryPart<'a> {
 
     fn erase(&mut self, block: usize) -> Result<(), Refusal>
         ensures answer { result ≡ erase_answer (shown_by self.old) block }
-        ensures after { shown_by self.new ≡ either result (erased (shown_by self.old) block) (shown_by self.old) }
+        ensures after { shown_by self.new ≡ after_erase result (shown_by self.old) block }
         ensures memory { self.new.bytes.now ≡ either result (wiped self.old.bytes.now self.old.limits.pages block) self.old.bytes.now }
         ensures limits { self.new.limits ≡ self.old.limits }
     {

@@ -1,6 +1,6 @@
 -- What a pair shows of its two parts.
-use Rattle.std.specs.Prelude.{◌≡◌, ℕ, ◌+◌, ◌<◌, ◌≤◌, min, cond, List, [], ◌++◌, map, length, take, Option, Some, None, ◌==◌, nat_lt}
-use Rattle.flash.specs.Part.{Block, Part}
+use Rattle.std.specs.Prelude.{◌≡◌, ℕ, ◌+◌, ◌-◌, ◌<◌, ◌≤◌, min, cond, List, [], ◌++◌, map, length, take, Option, Some, None, ◌==◌, nat_lt}
+use Rattle.flash.specs.Part.{Block, Part, appended, erased}
 use Rattle.flash.specs.Answers.{Answer, either}
 use Rattle.pair.specs.declared.pair.Pair.{Pair}
 use Rattle.pair.specs.declared.place.Place.{Place}
@@ -48,3 +48,17 @@ first_after p b r new = cond (nat_lt b (length p.blocks)) (either r new p) p
 -- .. and the second part q, whose blocks come after those of the first part p.
 abbrev pub second_after : Part → Part → ℕ → Answer → Part → Part
 second_after p q b r new = cond (nat_lt b (length p.blocks)) q (either r new q)
+
+-- The two parts after a program of block b of the pair with the bytes x that was answered r.
+abbrev pub first_after_program : Part → ℕ → Answer → List ℕ → Part
+first_after_program p b r x = first_after p b r (appended p b x)
+
+abbrev pub second_after_program : Part → Part → ℕ → Answer → List ℕ → Part
+second_after_program p q b r x = second_after p q b r (appended q (b - length p.blocks) x)
+
+-- The two parts after an erase of block b of the pair that was answered r.
+abbrev pub first_after_erase : Part → ℕ → Answer → Part
+first_after_erase p b r = first_after p b r (erased p b)
+
+abbrev pub second_after_erase : Part → Part → ℕ → Answer → Part
+second_after_erase p q b r = second_after p q b r (erased q (b - length p.blocks))

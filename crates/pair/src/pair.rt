@@ -1,7 +1,7 @@
 // The pair itself. It finds the part that has the block, and lowers both parts to the smaller endurance.
-ghost use Rattle.std.specs.Prelude.{◌≡◌, ◌-◌, length};
-ghost use Rattle.flash.specs.Part.{Sound, content, appended, erased};
-ghost use Rattle.flash.specs.Answers.{program_answer, read_answer, erase_answer, either};
+ghost use Rattle.std.specs.Prelude.{◌≡◌, length};
+ghost use Rattle.flash.specs.Part.{Sound, content};
+ghost use Rattle.flash.specs.Answers.{program_answer, read_answer, erase_answer, either, after_program, after_erase};
 
 use crate::place::Place;
 use flash::{Flash, MOST_BLOCKS, Refusal};
@@ -74,7 +74,7 @@ impl<F: Flash, G: Flash> Pair<F, G> {
 }
 
 impl<F: Flash, G: Flash> Flash for Pair<F, G> {
-    ghost use Rattle.pair.specs.Shown.{shown, first_after, second_after};
+    ghost use Rattle.pair.specs.Shown.{shown, first_after_program, second_after_program, first_after_erase, second_after_erase};
 
     ghost shows = { shown F.shows G.shows };
 
@@ -116,9 +116,9 @@ impl<F: Flash, G: Flash> Flash for Pair<F, G> {
     #[tactic(auto, using(crate::proofs::Calls::page_steps))]
     fn program(&mut self, block: usize, page: usize, bytes: &[u8; 256]) -> Result<(), Refusal>
         ensures answer { result ≡ program_answer (shown F.shows G.shows self.old) block page }
-        ensures after { shown F.shows G.shows self.new ≡ either result (appended (shown F.shows G.shows self.old) block bytes.now) (shown F.shows G.shows self.old) }
-        ensures first { F.shows self.new.first ≡ first_after (F.shows self.old.first) block result (appended (F.shows self.old.first) block bytes.now) }
-        ensures second { G.shows self.new.second ≡ second_after (F.shows self.old.first) (G.shows self.old.second) block result (appended (G.shows self.old.second) (block - length (F.shows self.old.first).blocks) bytes.now) }
+        ensures after { shown F.shows G.shows self.new ≡ after_program result (shown F.shows G.shows self.old) block bytes.now }
+        ensures first { F.shows self.new.first ≡ first_after_program (F.shows self.old.first) block result bytes.now }
+        ensures second { G.shows self.new.second ≡ second_after_program (F.shows self.old.first) (G.shows self.old.second) block result bytes.now }
     {
         match self.place(block).ok_or(Refusal::NoSuchPage)? {
             Place::First(under) => self.first.program(under, page, bytes),
@@ -143,9 +143,9 @@ impl<F: Flash, G: Flash> Flash for Pair<F, G> {
     #[tactic(auto, using(crate::proofs::Calls::erase_steps))]
     fn erase(&mut self, block: usize) -> Result<(), Refusal>
         ensures answer { result ≡ erase_answer (shown F.shows G.shows self.old) block }
-        ensures after { shown F.shows G.shows self.new ≡ either result (erased (shown F.shows G.shows self.old) block) (shown F.shows G.shows self.old) }
-        ensures first { F.shows self.new.first ≡ first_after (F.shows self.old.first) block result (erased (F.shows self.old.first) block) }
-        ensures second { G.shows self.new.second ≡ second_after (F.shows self.old.first) (G.shows self.old.second) block result (erased (G.shows self.old.second) (block - length (F.shows self.old.first).blocks)) }
+        ensures after { shown F.shows G.shows self.new ≡ after_erase result (shown F.shows G.shows self.old) block }
+        ensures first { F.shows self.new.first ≡ first_after_erase (F.shows self.old.first) block result }
+        ensures second { G.shows self.new.second ≡ second_after_erase (F.shows self.old.first) (G.shows self.old.second) block result }
     {
         let place = self.place(block).ok_or(Refusal::NoSuchPage)?;
         if self.erases(block) >= self.endurance() {

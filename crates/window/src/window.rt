@@ -1,7 +1,7 @@
 // The window itself. It adds to the block number, and checks that the block is one it shows.
 ghost use Rattle.std.specs.Prelude.{◌≡◌, ◌+◌, ◌≤◌, length};
-ghost use Rattle.flash.specs.Part.{Sound, content, appended, erased};
-ghost use Rattle.flash.specs.Answers.{program_answer, read_answer, erase_answer, either};
+ghost use Rattle.flash.specs.Part.{Sound, content};
+ghost use Rattle.flash.specs.Answers.{program_answer, read_answer, erase_answer, either, after_program, after_erase};
 
 use flash::{Flash, Refusal};
 
@@ -88,9 +88,9 @@ impl<F: Flash> Flash for Window<F> {
     #[tactic(auto, using(crate::proofs::Seen::seen_appended))]
     fn program(&mut self, block: usize, page: usize, bytes: &[u8; 256]) -> Result<(), Refusal>
         ensures answer { result ≡ program_answer (shown F.shows self.old) block page }
-        ensures after { shown F.shows self.new ≡ either result (appended (shown F.shows self.old) block bytes.now) (shown F.shows self.old) }
+        ensures after { shown F.shows self.new ≡ after_program result (shown F.shows self.old) block bytes.now }
         ensures stays { self.new ≡ record self.old { below = self.new.below } }
-        ensures below { F.shows self.new.below ≡ either result (appended (F.shows self.old.below) (self.old.hidden + block) bytes.now) (F.shows self.old.below) }
+        ensures below { F.shows self.new.below ≡ after_program result (F.shows self.old.below) (self.old.hidden + block) bytes.now }
     {
         let under = self.beneath(block).ok_or(Refusal::NoSuchPage)?;
         self.below.program(under, page, bytes)
@@ -110,9 +110,9 @@ impl<F: Flash> Flash for Window<F> {
     #[tactic(auto, using(crate::proofs::Seen::seen_erased))]
     fn erase(&mut self, block: usize) -> Result<(), Refusal>
         ensures answer { result ≡ erase_answer (shown F.shows self.old) block }
-        ensures after { shown F.shows self.new ≡ either result (erased (shown F.shows self.old) block) (shown F.shows self.old) }
+        ensures after { shown F.shows self.new ≡ after_erase result (shown F.shows self.old) block }
         ensures stays { self.new ≡ record self.old { below = self.new.below } }
-        ensures below { F.shows self.new.below ≡ either result (erased (F.shows self.old.below) (self.old.hidden + block)) (F.shows self.old.below) }
+        ensures below { F.shows self.new.below ≡ after_erase result (F.shows self.old.below) (self.old.hidden + block) }
     {
         let under = self.beneath(block).ok_or(Refusal::NoSuchPage)?;
         self.below.erase(under)
