@@ -49,14 +49,14 @@ erase_answer p b =
     cond (nat_lt b (length p.blocks)) (cond (nat_lt (erases p b) p.endurance) (Ok tt) (Err WornOut)) (Err NoSuchPage)
 
 -- What is there after a call: something new where it was accepted, and what was there where it refused.
-abbrev pub either : {X : Type 0} → Answer → X → X → X
-either (Ok u) new old = new
-either (Err e) new old = old
+abbrev pub if_accepted : {X : Type 0} → Answer → X → X → X
+if_accepted (Ok u) new old = new
+if_accepted (Err e) new old = old
 
 -- The part after a program of block b with the bytes x that was answered r.
 abbrev pub after_program : Answer → Part → ℕ → List ℕ → Part
-after_program r p b x = either r (appended p b x) p
+after_program r p b x = if_accepted r (appended p b x) p
 
 -- The part after an erase of block b that was answered r.
 abbrev pub after_erase : Answer → Part → ℕ → Part
-after_erase r p b = either r (erased p b) p
+after_erase r p b = if_accepted r (erased p b) p

@@ -1,7 +1,7 @@
 // The interface of a flash part. Whatever stands above a part knows it by `shows` alone.
 ghost use Rattle.std.specs.Prelude.{◌≡◌, length};
 ghost use Rattle.flash.specs.Part.{Part, Sound, written, erases, content};
-ghost use Rattle.flash.specs.Answers.{program_answer, read_answer, erase_answer, either, after_program, after_erase};
+ghost use Rattle.flash.specs.Answers.{program_answer, read_answer, erase_answer, if_accepted, after_program, after_erase};
 
 use crate::refusal::Refusal;
 
@@ -38,7 +38,7 @@ pub trait Flash {
     // A driver needs the bus, and a part may keep a record of its reads, hence `&mut`; what it shows stays.
     fn read(&mut self, block: usize, page: usize, buffer: &mut [u8; 256]) -> Result<(), Refusal>
         ensures answer { result ≡ read_answer (shows self.old) block page }
-        ensures buffer { buffer.new ≡ either result (content (shows self.old) block page) buffer.old }
+        ensures buffer { buffer.new ≡ if_accepted result (content (shows self.old) block page) buffer.old }
         ensures after { shows self.new ≡ shows self.old };
 
     fn erase(&mut self, block: usize) -> Result<(), Refusal>

@@ -6,7 +6,7 @@ use Rattle.std.proofs.lemmas.List.{length-append, length-drop, get_or_append_lef
 use Rattle.std.proofs.lemmas.Bool.{cases_eq}
 use Rattle.flash.specs.Part.{Block, no_block}
 use Rattle.memory.specs.Layout.{record_size, record_count, record_at, page_in, written_in}
-use Rattle.memory.specs.Memory.{block_in, part_in, blank_record, blank_records, formatted, clean_part}
+use Rattle.memory.specs.Memory.{block_in, part_in, blank_record, blank_records, made_fresh, clean_part}
 use Rattle.memory.proofs.Blank.{length_blank_records}
 use Rattle.memory.proofs.Counts.{counted_all}
 use Rattle.memory.proofs.Records.{record_apart, block_by}
@@ -39,33 +39,33 @@ module _ (m : List ℕ) (P : ℕ) where
       let n = record_size P in
       omega (arith, mul-le count n (length m / n) n (omega arith) (omega arith), div-add-mod' (length m) n)
 
-  formatted_length : length (formatted m P) ≡ length m
-  formatted_length =
+  made_fresh_length : length (made_fresh m P) ≡ length m
+  made_fresh_length =
       length-append (blank_records P count) _
       ∙ omega (arith, length_blank_records P count, length-drop (record_at P count) m, records_inside)
 
-  formatted_count : (b j : ℕ) → b < count → j < 8 → get_or (formatted m P) (record_at P b + j) 0 ≡ 0
-  formatted_count b j h l =
+  made_fresh_count : (b j : ℕ) → b < count → j < 8 → get_or (made_fresh m P) (record_at P b + j) 0 ≡ 0
+  made_fresh_count b j h l =
       get_or_append_left (blank_records P count) _ 0 (record_at P b + j)
       (omega (arith, length_blank_records P count, record_apart P b count h))
       ∙ blank_count P count b j h l
 
-  formatted_block : (W b : ℕ) → b < count → block_in (formatted m P) P W b ≡ no_block
-  formatted_block W b h =
-      let m' = formatted m P in let at = record_at P b in
-      let first : get_or m' at 0 ≡ 0 = ap (λ i. get_or m' i 0) (omega arith) ∙ formatted_count b 0 h (omega arith) in
-      let none : written_in m' P b ≡ 0 = omega (arith, formatted_count b 1 h (omega arith)) in
+  made_fresh_block : (W b : ℕ) → b < count → block_in (made_fresh m P) P W b ≡ no_block
+  made_fresh_block W b h =
+      let m' = made_fresh m P in let at = record_at P b in
+      let first : get_or m' at 0 ≡ 0 = ap (λ i. get_or m' i 0) (omega arith) ∙ made_fresh_count b 0 h (omega arith) in
+      let none : written_in m' P b ≡ 0 = omega (arith, made_fresh_count b 1 h (omega arith)) in
       let byte : (j : ℕ) → j < 4 → get_or m' (at + 4 + j) 0 ≡ 0 =
-      λ j l. ap (λ i. get_or m' i 0) (omega arith) ∙ formatted_count b (4 + j) h (omega arith) in
+      λ j l. ap (λ i. get_or m' i 0) (omega arith) ∙ made_fresh_count b (4 + j) h (omega arith) in
       block_by _ _ _ _
       (ap (λ n. map (page_in m' P b) (range_with_len 0 n)) none)
-      (omega (arith, formatted_count b 4 h (omega arith), byte 1 (omega arith), byte 2 (omega arith), byte 3 (omega arith)))
+      (omega (arith, made_fresh_count b 4 h (omega arith), byte 1 (omega arith), byte 2 (omega arith), byte 3 (omega arith)))
 
 -- It shows that part.
-pub shown_clean : (m : List ℕ) (P W : ℕ) → part_in (formatted m P) P W ≡ clean_part (record_count m P) P W
+pub shown_clean : (m : List ℕ) (P W : ℕ) → part_in (made_fresh m P) P W ≡ clean_part (record_count m P) P W
 shown_clean m P W =
-    let m' = formatted m P in
+    let m' = made_fresh m P in
     ap (λ n. record { blocks = map (block_in m' P W) (range_with_len 0 (min (n / record_size P) 255)); per_block = P; endurance = W })
-    (formatted_length m P)
+    (made_fresh_length m P)
     ∙ ap (λ (xs : List Block). record { blocks = xs; per_block = P; endurance = W })
-    (counted_all (block_in m' P W) (record_count m P) no_block (formatted_block m P W))
+    (counted_all (block_in m' P W) (record_count m P) no_block (made_fresh_block m P W))

@@ -7,7 +7,7 @@ use Rattle.flash.specs.Part.{Block, Sound, SoundBlock, no_block, block, written,
 use borrow.Rule.Slice.PartMut.{put_mid}
 use Rattle.std.specs.Int.{w16, w32, from_le_bytes}
 use Rattle.memory.specs.Layout.{number16, number32, record_size, record_count, record_at, page_at, written_in, stored_erases, page_in, bytes16, bytes32}
-use Rattle.memory.specs.Memory.{block_in, part_in, put, programmed, wiped}
+use Rattle.memory.specs.Memory.{block_in, part_in, put, page_programmed, wiped}
 use Rattle.memory.proofs.Writes.{Same, copy_part, fill_part, read_number16, read_number32, length_put, between_put, put_before, put_after, same_trans, same_number16, same_number32, number16_put, number32_put}
 use Rattle.memory.proofs.Counts.{counted_same, counted_set}
 use Rattle.memory.proofs.Records.{SameRecord, record_inside, put_elsewhere, same_page, same_block, block_by}
@@ -83,46 +83,46 @@ module _ (m : List ℕ) (P b k : ℕ) (x : List ℕ) (h : b < record_count m P) 
   count_within : record_at P b + 2 ≤ length paged
   count_within = omega (arith, record_inside m P b h, length_put m (page_at P b k) x page_within)
 
-  pub programmed_length : length (programmed m P b k x) ≡ length m
-  programmed_length = length_put paged (record_at P b) (bytes16 (k + 1)) count_within ∙ length_put m (page_at P b k) x page_within
+  pub page_programmed_length : length (page_programmed m P b k x) ≡ length m
+  page_programmed_length = length_put paged (record_at P b) (bytes16 (k + 1)) count_within ∙ length_put m (page_at P b k) x page_within
 
-  pub programmed_elsewhere : (c : ℕ) → (c ≡ b → ⊥) → SameRecord (programmed m P b k x) m P c
-  programmed_elsewhere c ne =
-      same_trans (programmed m P b k x) paged m _ _
+  pub page_programmed_elsewhere : (c : ℕ) → (c ≡ b → ⊥) → SameRecord (page_programmed m P b k x) m P c
+  page_programmed_elsewhere c ne =
+      same_trans (page_programmed m P b k x) paged m _ _
       (put_elsewhere paged P b c (record_at P b) (bytes16 (k + 1)) count_within (omega arith) (omega arith) ne)
       (put_elsewhere m P b c (page_at P b k) x page_within (omega arith) (omega arith) ne)
 
   -- What lies between the count and the page stays.
-  programmed_between : (from to : ℕ) → record_at P b + 2 ≤ from → to ≤ page_at P b k → Same (programmed m P b k x) m from to
-  programmed_between from to low high =
-      same_trans (programmed m P b k x) paged m from to
+  page_programmed_between : (from to : ℕ) → record_at P b + 2 ≤ from → to ≤ page_at P b k → Same (page_programmed m P b k x) m from to
+  page_programmed_between from to low high =
+      same_trans (page_programmed m P b k x) paged m from to
       (put_after paged (record_at P b) (bytes16 (k + 1)) count_within from low to)
       (put_before m (page_at P b k) x page_within to high from)
 
-  programmed_page : page_in (programmed m P b k x) P b k ≡ x
-  programmed_page =
-      same_page (programmed m P b k x) paged P b (length_put paged (record_at P b) (bytes16 (k + 1)) count_within)
-      (omega (arith, record_inside m P b h, programmed_length)) k next
+  page_programmed_page : page_in (page_programmed m P b k x) P b k ≡ x
+  page_programmed_page =
+      same_page (page_programmed m P b k x) paged P b (length_put paged (record_at P b) (bytes16 (k + 1)) count_within)
+      (omega (arith, record_inside m P b h, page_programmed_length)) k next
       (put_after paged (record_at P b) (bytes16 (k + 1)) count_within _ (omega arith) _)
       ∙ ap (λ n. take n (drop (page_at P b k) paged)) (sym full) ∙ between_put m (page_at P b k) x page_within
 
-  pub programmed_block : (W : ℕ) → P ≤ 64 → written_in m P b ≡ k
-      → block_in (programmed m P b k x) P W b
+  pub page_programmed_block : (W : ℕ) → P ≤ 64 → written_in m P b ≡ k
+      → block_in (page_programmed m P b k x) P W b
       ≡ record { pages = (block_in m P W b).pages ++ x ∷ []; erases = (block_in m P W b).erases }
-  programmed_block W most was =
-      let m' = programmed m P b k x in
+  page_programmed_block W most was =
+      let m' = page_programmed m P b k x in
       let count : written_in m' P b ≡ k + 1 =
       omega (arith, number16_put paged (record_at P b) (k + 1) count_within (omega arith)) in
       block_by _ _ _ _
       (ap (λ n. map (page_in m' P b) (range_with_len 0 n)) count
       ∙ map-range_with_len_more (page_in m' P b) 0 k k (omega arith)
-      ∙ ap (λ (y : List ℕ). map (page_in m' P b) (range_with_len 0 k) ++ y ∷ []) programmed_page
+      ∙ ap (λ (y : List ℕ). map (page_in m' P b) (range_with_len 0 k) ++ y ∷ []) page_programmed_page
       ∙ ap (λ (ys : List (List ℕ)). ys ++ x ∷ [])
       (counted_same [] (page_in m' P b) (page_in m P b) k
-      (λ j l. same_page m' m P b programmed_length (omega (arith, record_inside m P b h, programmed_length)) j (omega arith)
-      (programmed_between _ _ (omega arith) (omega arith)))
+      (λ j l. same_page m' m P b page_programmed_length (omega (arith, record_inside m P b h, page_programmed_length)) j (omega arith)
+      (page_programmed_between _ _ (omega arith) (omega arith)))
       ∙ ap (λ n. map (page_in m P b) (range_with_len 0 n)) (sym was)))
-      (ap (λ n. min n W) (same_number32 m' m (record_at P b + 4) (programmed_between _ _ (omega arith) (omega arith))))
+      (ap (λ n. min n W) (same_number32 m' m (record_at P b + 4) (page_programmed_between _ _ (omega arith) (omega arith))))
 
 -- Block b is erased: the pages, the written count and the erase count are written.
 module _ (m : List ℕ) (P b : ℕ) (h : b < record_count m P) where
@@ -183,7 +183,7 @@ module _ (m : List ℕ) (P b : ℕ) (h : b < record_count m P) where
 pub program_writes : (m : List ℕ) (P b k at : ℕ) (x new fresh : List ℕ)
     → at ≡ record_at P b → length x ≡ 256 → new ≡ x → fresh ≡ bytes16 (k + 1)
     → put_mid at (at + 2 - at) (put_mid (at + 8 + 256 * k) (at + 8 + 256 * k + 256 - (at + 8 + 256 * k)) m new) fresh
-    ≡ programmed m P b k x
+    ≡ page_programmed m P b k x
 program_writes m P b k at x new fresh place full is counted =
     copy_part _ at (at + 2) fresh (bytes16 (k + 1)) (omega arith) counted
     ∙ ap (λ w. put w at (bytes16 (k + 1))) (copy_part m _ _ new x (omega arith) is)
@@ -196,13 +196,13 @@ module _ (m : List ℕ) (P W b : ℕ) (inside : b < length (part_in m P W).block
 
   -- A program of the next page appends it.
   pub shown_appended : (k : ℕ) (x : List ℕ) → P ≤ 64 → k < P → length x ≡ 256 → k ≡ written (part_in m P W) b
-      → part_in (programmed m P b k x) P W ≡ appended (part_in m P W) b x
+      → part_in (page_programmed m P b k x) P W ≡ appended (part_in m P W) b x
   shown_appended k x most room full next =
-      shown_put m (programmed m P b k x) P W b _
-      (programmed_length m P b k x there room full) there
-      (programmed_block m P b k x there room full W most (omega (arith, shown_written m P W b there))
+      shown_put m (page_programmed m P b k x) P W b _
+      (page_programmed_length m P b k x there room full) there
+      (page_programmed_block m P b k x there room full W most (omega (arith, shown_written m P W b there))
       ∙ ap (λ (y : Block). record { pages = y.pages ++ x ∷ []; erases = y.erases }) (sym (shown_block m P W b there)))
-      (programmed_elsewhere m P b k x there room full)
+      (page_programmed_elsewhere m P b k x there room full)
 
   -- An erase of a block below its endurance empties it, and counts.
   pub shown_erased : W ≤ 1000000 → erases (part_in m P W) b < W → part_in (wiped m P b) P W ≡ erased (part_in m P W) b

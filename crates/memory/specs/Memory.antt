@@ -26,8 +26,8 @@ abbrev pub put : List ℕ → ℕ → List ℕ → List ℕ
 put m i xs = take i m ++ (xs ++ drop (i + length xs) m)
 
 -- After page k of block b was programmed with x: x in the page's place, and k + 1 as the written count.
-abbrev pub programmed : List ℕ → ℕ → ℕ → ℕ → List ℕ → List ℕ
-programmed m P b k x = put (put m (page_at P b k) x) (record_at P b) (bytes16 (k + 1))
+abbrev pub page_programmed : List ℕ → ℕ → ℕ → ℕ → List ℕ → List ℕ
+page_programmed m P b k x = put (put m (page_at P b k) x) (record_at P b) (bytes16 (k + 1))
 
 -- The memory after block b was erased: 255 in every byte of its pages, 0 as the written count, and an erase count that is one higher.
 abbrev pub wiped : List ℕ → ℕ → ℕ → List ℕ
@@ -45,8 +45,8 @@ blank_records P zero = []
 blank_records P (suc n) = blank_records P n ++ blank_record P
 
 -- The memory made fresh: every record blank, and the bytes past the last record as they were.
-abbrev pub formatted : List ℕ → ℕ → List ℕ
-formatted m P = blank_records P (record_count m P) ++ drop (record_at P (record_count m P)) m
+abbrev pub made_fresh : List ℕ → ℕ → List ℕ
+made_fresh m P = blank_records P (record_count m P) ++ drop (record_at P (record_count m P)) m
 
 -- A part of `count` blocks with no page written and no block erased.
 abbrev pub clean_part : ℕ → ℕ → ℕ → Part

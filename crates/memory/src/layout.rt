@@ -4,7 +4,7 @@ ghost use Rattle.std.specs.Option.{SomeIff};
 ghost use Rattle.std.specs.Result.{OkIff};
 ghost use Rattle.flash.specs.declared.refusal.Refusal.TheVariants.{NoSuchPage};
 ghost use Rattle.memory.specs.Layout.{record_size, record_count, record_at};
-ghost use Rattle.memory.specs.Memory.{shown_by, formatted};
+ghost use Rattle.memory.specs.Memory.{shown_by, made_fresh};
 
 use crate::memory_part::MemoryPart;
 use flash::{Flash, MOST_BLOCKS, Refusal};
@@ -72,8 +72,8 @@ impl<'a> MemoryPart<'a> {
     }
 
     // Makes every record that of a block never written nor erased.
-    pub(crate) fn format(&mut self)
-        ensures bytes { self.new.bytes.now ≡ formatted self.old.bytes.now self.old.limits.pages }
+    pub(crate) fn make_fresh(&mut self)
+        ensures bytes { self.new.bytes.now ≡ made_fresh self.old.bytes.now self.old.limits.pages }
         ensures limits { self.new.limits ≡ self.old.limits }
     {
         let size = self.record_size();

@@ -17,19 +17,19 @@ pub struct MemoryPart<'a> {
 }
 
 impl<'a> MemoryPart<'a> {
-    ghost use Rattle.memory.specs.Memory.{shown_by, memory_of, formatted, clean_part};
+    ghost use Rattle.memory.specs.Memory.{shown_by, memory_of, made_fresh, clean_part};
 
     // Makes the memory a part with no page written and no block erased. Pages and endurance are any two numbers; `Limits` has only those that count.
     #[tactic(auto, using(crate::proofs::Clean::shown_clean))]
     pub fn fresh(bytes: &'a mut [u8], pages: usize, endurance: u32) -> Self
-        ensures bytes { result.bytes.now ≡ formatted bytes.old (pages_of pages) }
+        ensures bytes { result.bytes.now ≡ made_fresh bytes.old (pages_of pages) }
         ensures pages { result.limits.pages ≡ pages_of pages }
         ensures endurance { result.limits.endurance ≡ endurance_of endurance }
         ensures clean { shown_by result ≡ clean_part (record_count bytes.old (pages_of pages)) (pages_of pages) (endurance_of endurance) }
     {
         let limits = Limits::new(pages, endurance);
         let mut part = MemoryPart { bytes, limits };
-        part.format();
+        part.make_fresh();
         part
     }
 
@@ -56,8 +56,8 @@ impl<'a> MemoryPart<'a> {
 
 impl<'a> Flash for MemoryPart<'a> {
     ghost use Rattle.flash.specs.Part.{content};
-    ghost use Rattle.flash.specs.Answers.{program_answer, read_answer, erase_answer, either, after_program, after_erase};
-    ghost use Rattle.memory.specs.Memory.{shown_by, programmed, wiped};
+    ghost use Rattle.flash.specs.Answers.{program_answer, read_answer, erase_answer, if_accepted, after_program, after_erase};
+    ghost use Rattle.memory.specs.Memory.{shown_by, page_programmed, wiped};
 
     ghost shows = { shown_by };
 
@@ -95,7 +95,7 @@ impl<'a> Flash for MemoryPart<'a> {
     fn program(&mut self, block: usize, page: usize, bytes: &[u8; 256]) -> Result<(), Refusal>
         ensures answer { result ≡ program_answer (shown_by self.old) block page }
         ensures after { shown_by self.new ≡ after_program result (shown_by self.old) block bytes.now }
-        ensures memory { self.new.bytes.now ≡ either result (programmed self.old.bytes.now self.old.limits.pages block page bytes.now) self.old.bytes.now }
+        ensures memory { self.new.bytes.now ≡ if_accepted result (page_programmed self.old.bytes.now self.old.limits.pages block page bytes.now) self.old.bytes.now }
         ensures limits { self.new.limits ≡ self.old.limits }
     {
         let record = self.record_with_page(block, page)?;
@@ -111,7 +111,7 @@ impl<'a> Flash for MemoryPart<'a> {
     #[tactic(auto, using(crate::proofs::Shown::read_content))]
     fn read(&mut self, block: usize, page: usize, buffer: &mut [u8; 256]) -> Result<(), Refusal>
         ensures answer { result ≡ read_answer (shown_by self.old) block page }
-        ensures buffer { buffer.new ≡ either result (content (shown_by self.old) block page) buffer.old }
+        ensures buffer { buffer.new ≡ if_accepted result (content (shown_by self.old) block page) buffer.old }
         ensures after { shown_by self.new ≡ shown_by self.old }
         ensures memory { self.new.bytes.now ≡ self.old.bytes.now }
         ensures limits { self.new.limits ≡ self.old.limits }
@@ -127,7 +127,7 @@ impl<'a> Flash for MemoryPart<'a> {
     fn erase(&mut self, block: usize) -> Result<(), Refusal>
         ensures answer { result ≡ erase_answer (shown_by self.old) block }
         ensures after { shown_by self.new ≡ after_erase result (shown_by self.old) block }
-        ensures memory { self.new.bytes.now ≡ either result (wiped self.old.bytes.now self.old.limits.pages block) self.old.bytes.now }
+        ensures memory { self.new.bytes.now ≡ if_accepted result (wiped self.old.bytes.now self.old.limits.pages block) self.old.bytes.now }
         ensures limits { self.new.limits ≡ self.old.limits }
     {
         let record = self.record(block).ok_or(Refusal::NoSuchPage)?;

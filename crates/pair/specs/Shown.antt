@@ -1,7 +1,7 @@
 -- What a pair shows of its two parts.
 use Rattle.std.specs.Prelude.{◌≡◌, ℕ, ◌+◌, ◌-◌, ◌<◌, ◌≤◌, min, cond, List, [], ◌++◌, map, length, take, Option, Some, None, ◌==◌, nat_lt}
 use Rattle.flash.specs.Part.{Block, Part, appended, erased}
-use Rattle.flash.specs.Answers.{Answer, either}
+use Rattle.flash.specs.Answers.{Answer, if_accepted}
 use Rattle.pair.specs.declared.pair.Pair.{Pair}
 use Rattle.pair.specs.declared.place.Place.{Place}
 use Rattle.pair.specs.declared.place.Place.TheVariants.{First, Second}
@@ -35,19 +35,19 @@ abbrev pub shown_count : Part → Part → ℕ
 shown_count p q = min (length p.blocks + length (counted p q)) 255
 
 -- Where block b of the pair stands: under its own number in p, or after the blocks of p in q; none for a block that is not shown.
-abbrev pub Stands : Part → Part → ℕ → Option Place → Type 0
-Stands p q b (Some (First c)) = (b < 255) × (b < length p.blocks) × (c ≡ b)
-Stands p q b (Some (Second c)) = (b < 255) × (c < length (counted p q)) × (b ≡ length p.blocks + c)
-Stands p q b None = length (pair_of p q).blocks ≤ b
+abbrev pub Located : Part → Part → ℕ → Option Place → Type 0
+Located p q b (Some (First c)) = (b < 255) × (b < length p.blocks) × (c ≡ b)
+Located p q b (Some (Second c)) = (b < 255) × (c < length (counted p q)) × (b ≡ length p.blocks + c)
+Located p q b None = length (pair_of p q).blocks ≤ b
 
 -- The first part after a call on block b that was answered r, if an accepted call on a block of its own leaves `new`. Only a
 -- block of its own can change it.
 abbrev pub first_after : Part → ℕ → Answer → Part → Part
-first_after p b r new = cond (nat_lt b (length p.blocks)) (either r new p) p
+first_after p b r new = cond (nat_lt b (length p.blocks)) (if_accepted r new p) p
 
 -- .. and the second part q, whose blocks come after those of the first part p.
 abbrev pub second_after : Part → Part → ℕ → Answer → Part → Part
-second_after p q b r new = cond (nat_lt b (length p.blocks)) q (either r new q)
+second_after p q b r new = cond (nat_lt b (length p.blocks)) q (if_accepted r new q)
 
 -- The two parts after a program of block b of the pair with the bytes x that was answered r.
 abbrev pub first_after_program : Part → ℕ → Answer → List ℕ → Part

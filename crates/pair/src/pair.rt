@@ -1,7 +1,7 @@
 // The pair itself. It finds the part that has the block, and lowers both parts to the smaller endurance.
 ghost use Rattle.std.specs.Prelude.{◌≡◌, length};
 ghost use Rattle.flash.specs.Part.{Sound, content};
-ghost use Rattle.flash.specs.Answers.{program_answer, read_answer, erase_answer, either, after_program, after_erase};
+ghost use Rattle.flash.specs.Answers.{program_answer, read_answer, erase_answer, if_accepted, after_program, after_erase};
 
 use crate::place::Place;
 use flash::{Flash, MOST_BLOCKS, Refusal};
@@ -13,7 +13,7 @@ pub struct Pair<F, G> {
 }
 
 impl<F: Flash, G: Flash> Pair<F, G> {
-    ghost use Rattle.pair.specs.Shown.{counted, shown_count, Stands};
+    ghost use Rattle.pair.specs.Shown.{counted, shown_count, Located};
 
     // Shows the blocks of `first`, then those of `second`, up to 255 in all.
     pub fn new(first: F, second: G) -> Self
@@ -59,7 +59,7 @@ impl<F: Flash, G: Flash> Pair<F, G> {
     // Where the block stands, if the pair shows it.
     #[tactic(auto, using(crate::proofs::Sides::pair_count))]
     fn place(&self, block: usize) -> Option<Place>
-        ensures found { Stands (F.shows self.now.first) (G.shows self.now.second) block result }
+        ensures found { Located (F.shows self.now.first) (G.shows self.now.second) block result }
     {
         let shown = self.shown_blocks();
         let before = self.first.blocks();
@@ -129,7 +129,7 @@ impl<F: Flash, G: Flash> Flash for Pair<F, G> {
     #[tactic(auto, using(crate::proofs::Calls::page_steps))]
     fn read(&mut self, block: usize, page: usize, buffer: &mut [u8; 256]) -> Result<(), Refusal>
         ensures answer { result ≡ read_answer (shown F.shows G.shows self.old) block page }
-        ensures buffer { buffer.new ≡ either result (content (shown F.shows G.shows self.old) block page) buffer.old }
+        ensures buffer { buffer.new ≡ if_accepted result (content (shown F.shows G.shows self.old) block page) buffer.old }
         ensures after { shown F.shows G.shows self.new ≡ shown F.shows G.shows self.old }
         ensures first { F.shows self.new.first ≡ F.shows self.old.first }
         ensures second { G.shows self.new.second ≡ G.shows self.old.second }

@@ -1,7 +1,7 @@
 // The window itself. It adds to the block number, and checks that the block is one it shows.
 ghost use Rattle.std.specs.Prelude.{◌≡◌, ◌+◌, ◌≤◌, length};
 ghost use Rattle.flash.specs.Part.{Sound, content};
-ghost use Rattle.flash.specs.Answers.{program_answer, read_answer, erase_answer, either, after_program, after_erase};
+ghost use Rattle.flash.specs.Answers.{program_answer, read_answer, erase_answer, if_accepted, after_program, after_erase};
 
 use flash::{Flash, Refusal};
 
@@ -98,7 +98,7 @@ impl<F: Flash> Flash for Window<F> {
 
     fn read(&mut self, block: usize, page: usize, buffer: &mut [u8; 256]) -> Result<(), Refusal>
         ensures answer { result ≡ read_answer (shown F.shows self.old) block page }
-        ensures buffer { buffer.new ≡ either result (content (shown F.shows self.old) block page) buffer.old }
+        ensures buffer { buffer.new ≡ if_accepted result (content (shown F.shows self.old) block page) buffer.old }
         ensures after { shown F.shows self.new ≡ shown F.shows self.old }
         ensures stays { self.new ≡ record self.old { below = self.new.below } }
         ensures below { F.shows self.new.below ≡ F.shows self.old.below }

@@ -1,7 +1,7 @@
 use Rattle.std.proofs.Common.{◌*◌, ap, arith}
 use Rattle.memory.proofs.Blank.{blank_step}
 use Rattle.memory.proofs.Records.{record_inside}
-use Rattle.memory.proofs.memory_part.MemoryPart.format.Goals as goal
+use Rattle.memory.proofs.memory_part.MemoryPart.make_fresh.Goals as goal
 
 pub loop-block-preserved : goal.loop-block-preserved
 loop-block-preserved c =

@@ -1,7 +1,7 @@
 use Rattle.std.proofs.Common.{◌≡◌, ◌++◌, drop}
 use Rattle.memory.specs.Layout.{record_at}
 use Rattle.memory.specs.Memory.{blank_records}
-use Rattle.memory.proofs.memory_part.MemoryPart.format.Given as goal
+use Rattle.memory.proofs.memory_part.MemoryPart.make_fresh.Given as goal
 
 abbrev pub invariant-loop-block : goal.invariant-loop-block
 invariant-loop-block l =
