@@ -29,8 +29,8 @@ abbrev pub erases : Part → ℕ → ℕ
 erases p b = (block p b).erases
 
 -- The bytes of page k of block b, none for a page that is not written.
-abbrev pub content : Part → ℕ → ℕ → List ℕ
-content p b k = slice_index_or (block p b).pages k []
+abbrev pub page_bytes : Part → ℕ → ℕ → List ℕ
+page_bytes p b k = slice_index_or (block p b).pages k []
 
 -- The part in which block b is another.
 abbrev pub with_block : Part → ℕ → Block → Part

@@ -1,9 +1,9 @@
 // The interface of a flash part. Whatever stands above a part knows it by `shows` alone.
 ghost use Rattle.std.specs.Prelude.{◌≡◌, length};
-ghost use Rattle.flash.specs.Part.{Part, Sound, written, erases, content};
+ghost use Rattle.flash.specs.Part.{Part, Sound, written, erases, page_bytes};
 ghost use Rattle.flash.specs.Answers.{program_answer, read_answer, erase_answer, if_accepted, after_program, after_erase};
 
-use crate::refusal::Refusal;
+use crate::refusal::PartRefusal;
 
 pub trait Flash {
     // What the part means now.
@@ -31,17 +31,17 @@ pub trait Flash {
         ensures value { result ≡ erases (shows self.now) block };
 
     // A page is named by its block and its place there, as a driver of a part is asked for it.
-    fn program(&mut self, block: usize, page: usize, bytes: &[u8; 256]) -> Result<(), Refusal>
+    fn program(&mut self, block: usize, page: usize, bytes: &[u8; 256]) -> Result<(), PartRefusal>
         ensures answer { result ≡ program_answer (shows self.old) block page }
         ensures after { shows self.new ≡ after_program result (shows self.old) block bytes.now };
 
     // A driver needs the bus, and a part may keep a record of its reads, hence `&mut`; what it shows stays.
-    fn read(&mut self, block: usize, page: usize, buffer: &mut [u8; 256]) -> Result<(), Refusal>
+    fn read(&mut self, block: usize, page: usize, buffer: &mut [u8; 256]) -> Result<(), PartRefusal>
         ensures answer { result ≡ read_answer (shows self.old) block page }
-        ensures buffer { buffer.new ≡ if_accepted result (content (shows self.old) block page) buffer.old }
+        ensures buffer { buffer.new ≡ if_accepted result (page_bytes (shows self.old) block page) buffer.old }
         ensures after { shows self.new ≡ shows self.old };
 
-    fn erase(&mut self, block: usize) -> Result<(), Refusal>
+    fn erase(&mut self, block: usize) -> Result<(), PartRefusal>
         ensures answer { result ≡ erase_answer (shows self.old) block }
         ensures after { shows self.new ≡ after_erase result (shows self.old) block };
 }

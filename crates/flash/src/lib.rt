@@ -9,4 +9,4 @@ mod refusal;
 pub use flash::Flash;
 pub use laws::laws_hold;
 pub use limits::{MOST_BLOCKS, MOST_ENDURANCE, MOST_PAGES_PER_BLOCK};
-pub use refusal::Refusal;
+pub use refusal::PartRefusal;

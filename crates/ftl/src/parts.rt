@@ -2,7 +2,7 @@
 use crate::BLOCKS;
 use crate::blocks::wear_of;
 use crate::pages::tariff_page;
-use flash::{Flash, Refusal};
+use flash::{Flash, PartRefusal};
 use least::{Counted, least};
 use page::equal;
 use std::{array, io};
@@ -56,7 +56,7 @@ impl<F: Flash> Demonstration<'_, F> {
         println!(self.rt; "tariff {tariff}: equal to what was programmed: {same}")
     }
 
-    fn report(&self, call: &str, answer: Result<(), Refusal>) -> io::Result<()> {
+    fn report(&self, call: &str, answer: Result<(), PartRefusal>) -> io::Result<()> {
         match answer {
             Ok(()) => println!(self.rt; "{call}: accepted"),
             Err(refusal) => println!(self.rt; "{call}: refused with {}", refusal.number()),

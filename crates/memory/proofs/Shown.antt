@@ -3,7 +3,7 @@ use Rattle.std.proofs.Common.{◌≡◌, ℕ, ◌+◌, ◌-◌, ◌*◌, ◌/◌
 use Rattle.std.specs.List.{range_with_len}
 use Rattle.std.proofs.lemmas.List.FromFn.{length-map-range_with_len, get_or-map-range_with_len, map-range_with_len_more}
 use Rattle.std.proofs.lemmas.List.{length-take, length-drop, length-replicate}
-use Rattle.flash.specs.Part.{Block, Sound, SoundBlock, no_block, block, written, erases, content, with_block, appended, erased}
+use Rattle.flash.specs.Part.{Block, Sound, SoundBlock, no_block, block, written, erases, page_bytes, with_block, appended, erased}
 use borrow.Rule.Slice.PartMut.{put_mid}
 use Rattle.std.specs.Int.{w16, w32, from_le_bytes}
 use Rattle.memory.specs.Layout.{number16, number32, record_size, record_count, record_at, page_at, written_in, stored_erases, page_in, bytes16, bytes32}
@@ -35,7 +35,7 @@ module _ (m : List ℕ) (P W b : ℕ) (h : b < record_count m P) where
 
   -- .. each in its place.
   pub shown_content : (k : ℕ) → k < written (part_in m P W) b
-      → content (part_in m P W) b k ≡ page_in m P b k
+      → page_bytes (part_in m P W) b k ≡ page_in m P b k
   shown_content k l =
       ap (λ (x : Block). get_or x.pages k []) (shown_block m P W b h)
       ∙ get_or-map-range_with_len _ 0 (written_in m P b) k k [] (omega (arith, shown_written)) (omega arith)
@@ -55,7 +55,7 @@ module _ (m : List ℕ) (P W b at : ℕ) (inside : b < length (part_in m P W).bl
   pub read_erases : min (from_le_bytes w32 (take 4 (drop (at + 4) m))) W ≡ erases (part_in m P W) b
   read_erases = ap (λ n. min n W) (read_number32 m (at + 4)) ∙ ap (λ i. min (number32 m (i + 4)) W) place ∙ sym (shown_erases m P W b here)
 
-  pub read_content : (k : ℕ) → k < written (part_in m P W) b → take 256 (drop (at + 8 + 256 * k) m) ≡ content (part_in m P W) b k
+  pub read_content : (k : ℕ) → k < written (part_in m P W) b → take 256 (drop (at + 8 + 256 * k) m) ≡ page_bytes (part_in m P W) b k
   read_content k there = ap (λ i. take 256 (drop i m)) (omega arith) ∙ sym (shown_content m P W b here k there)
 
 -- Another block where the memory changed, and the others where it did not.

@@ -2,12 +2,12 @@
 ghost use Rattle.std.specs.Prelude.{◌≡◌, ◌+◌, ◌<◌, ◌≤◌, length, take, drop, IfOk, IfSome, IsOkUnless};
 ghost use Rattle.std.specs.Option.{SomeIff};
 ghost use Rattle.std.specs.Result.{OkIff};
-ghost use Rattle.flash.specs.declared.refusal.Refusal.TheVariants.{NoSuchPage};
+ghost use Rattle.flash.specs.declared.refusal.PartRefusal.TheVariants.{NoSuchPage};
 ghost use Rattle.memory.specs.Layout.{record_size, record_count, record_at};
 ghost use Rattle.memory.specs.Memory.{shown_by, made_fresh};
 
 use crate::memory_part::MemoryPart;
-use flash::{Flash, MOST_BLOCKS, Refusal};
+use flash::{Flash, MOST_BLOCKS, PartRefusal};
 
 // The bytes before a record's pages.
 pub(crate) const HEADER: usize = 8;
@@ -52,14 +52,14 @@ impl<'a> MemoryPart<'a> {
     }
 
     // Where the record of the block begins, if it has the page. With `filter` the proof did not close.
-    pub(crate) fn record_with_page(&self, block: usize, page: usize) -> Result<usize, Refusal>
+    pub(crate) fn record_with_page(&self, block: usize, page: usize) -> Result<usize, PartRefusal>
         ensures place { OkIff result ((block < length (shown_by self.now).blocks) × (page < (shown_by self.now).per_block)) (record_at self.now.limits.pages block) }
         ensures within { IfOk result (λ at. at + record_size self.now.limits.pages ≤ length self.now.bytes.now) }
         ensures refusal { IsOkUnless result NoSuchPage }
     {
         match self.record(block) {
             Some(record) if page < self.limits.pages => Ok(record),
-            _ => Err(Refusal::NoSuchPage),
+            _ => Err(PartRefusal::NoSuchPage),
         }
     }
 

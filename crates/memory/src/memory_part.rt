@@ -4,7 +4,7 @@ ghost use Rattle.memory.specs.Layout.{pages_of, endurance_of, record_count};
 
 use crate::layout::{ERASED, ERASES, HEADER, PAGE, WRITTEN};
 use crate::limits::Limits;
-use flash::{Flash, Refusal};
+use flash::{Flash, PartRefusal};
 
 // The bounds stand here: in `Limits`, beside the `&mut`, code that has this part as a type argument, as a pair or a window of it, would get no proof.
 #[derive(Drop)]
@@ -55,7 +55,7 @@ impl<'a> MemoryPart<'a> {
 }
 
 impl<'a> Flash for MemoryPart<'a> {
-    ghost use Rattle.flash.specs.Part.{content};
+    ghost use Rattle.flash.specs.Part.{page_bytes};
     ghost use Rattle.flash.specs.Answers.{program_answer, read_answer, erase_answer, if_accepted, after_program, after_erase};
     ghost use Rattle.memory.specs.Memory.{shown_by, page_programmed, wiped};
 
@@ -92,7 +92,7 @@ impl<'a> Flash for MemoryPart<'a> {
     }
 
     // `limits` stands on each call for a reader of the bytes; `after` comes to the same, as what is shown has both numbers.
-    fn program(&mut self, block: usize, page: usize, bytes: &[u8; 256]) -> Result<(), Refusal>
+    fn program(&mut self, block: usize, page: usize, bytes: &[u8; 256]) -> Result<(), PartRefusal>
         ensures answer { result ≡ program_answer (shown_by self.old) block page }
         ensures after { shown_by self.new ≡ after_program result (shown_by self.old) block bytes.now }
         ensures memory { self.new.bytes.now ≡ if_accepted result (page_programmed self.old.bytes.now self.old.limits.pages block page bytes.now) self.old.bytes.now }
@@ -100,7 +100,7 @@ impl<'a> Flash for MemoryPart<'a> {
     {
         let record = self.record_with_page(block, page)?;
         if page != self.written(block) {
-            return Err(Refusal::NotNext);
+            return Err(PartRefusal::NotNextPage);
         }
         let at = record + HEADER + PAGE * page;
         self.bytes[at..at + PAGE].copy_from_slice(bytes);
@@ -109,31 +109,31 @@ impl<'a> Flash for MemoryPart<'a> {
     }
 
     #[tactic(auto, using(crate::proofs::Shown::read_content))]
-    fn read(&mut self, block: usize, page: usize, buffer: &mut [u8; 256]) -> Result<(), Refusal>
+    fn read(&mut self, block: usize, page: usize, buffer: &mut [u8; 256]) -> Result<(), PartRefusal>
         ensures answer { result ≡ read_answer (shown_by self.old) block page }
-        ensures buffer { buffer.new ≡ if_accepted result (content (shown_by self.old) block page) buffer.old }
+        ensures buffer { buffer.new ≡ if_accepted result (page_bytes (shown_by self.old) block page) buffer.old }
         ensures after { shown_by self.new ≡ shown_by self.old }
         ensures memory { self.new.bytes.now ≡ self.old.bytes.now }
         ensures limits { self.new.limits ≡ self.old.limits }
     {
         let record = self.record_with_page(block, page)?;
         if page >= self.written(block) {
-            return Err(Refusal::Unwritten);
+            return Err(PartRefusal::Unwritten);
         }
         *buffer = self.bytes_at(record + HEADER + PAGE * page);
         Ok(())
     }
 
-    fn erase(&mut self, block: usize) -> Result<(), Refusal>
+    fn erase(&mut self, block: usize) -> Result<(), PartRefusal>
         ensures answer { result ≡ erase_answer (shown_by self.old) block }
         ensures after { shown_by self.new ≡ after_erase result (shown_by self.old) block }
         ensures memory { self.new.bytes.now ≡ if_accepted result (wiped self.old.bytes.now self.old.limits.pages block) self.old.bytes.now }
         ensures limits { self.new.limits ≡ self.old.limits }
     {
-        let record = self.record(block).ok_or(Refusal::NoSuchPage)?;
+        let record = self.record(block).ok_or(PartRefusal::NoSuchPage)?;
         let erases = self.erases(block);
         if erases >= self.limits.endurance {
-            return Err(Refusal::WornOut);
+            return Err(PartRefusal::EnduranceReached);
         }
         let end = record + self.record_size();
         self.bytes[record + HEADER..end].fill(ERASED);

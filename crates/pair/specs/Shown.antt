@@ -1,7 +1,7 @@
 -- What a pair shows of its two parts.
 use Rattle.std.specs.Prelude.{◌≡◌, ℕ, ◌+◌, ◌-◌, ◌<◌, ◌≤◌, min, cond, List, [], ◌++◌, map, length, take, Option, Some, None, ◌==◌, nat_lt}
 use Rattle.flash.specs.Part.{Block, Part, appended, erased}
-use Rattle.flash.specs.Answers.{Answer, if_accepted}
+use Rattle.flash.specs.Answers.{PartAnswer, if_accepted}
 use Rattle.pair.specs.declared.pair.Pair.{Pair}
 use Rattle.pair.specs.declared.place.Place.{Place}
 use Rattle.pair.specs.declared.place.Place.TheVariants.{First, Second}
@@ -42,23 +42,23 @@ Located p q b None = length (pair_of p q).blocks ≤ b
 
 -- The first part after a call on block b that was answered r, if an accepted call on a block of its own leaves `new`. Only a
 -- block of its own can change it.
-abbrev pub first_after : Part → ℕ → Answer → Part → Part
+abbrev pub first_after : Part → ℕ → PartAnswer → Part → Part
 first_after p b r new = cond (nat_lt b (length p.blocks)) (if_accepted r new p) p
 
 -- .. and the second part q, whose blocks come after those of the first part p.
-abbrev pub second_after : Part → Part → ℕ → Answer → Part → Part
+abbrev pub second_after : Part → Part → ℕ → PartAnswer → Part → Part
 second_after p q b r new = cond (nat_lt b (length p.blocks)) q (if_accepted r new q)
 
 -- The two parts after a program of block b of the pair with the bytes x that was answered r.
-abbrev pub first_after_program : Part → ℕ → Answer → List ℕ → Part
+abbrev pub first_after_program : Part → ℕ → PartAnswer → List ℕ → Part
 first_after_program p b r x = first_after p b r (appended p b x)
 
-abbrev pub second_after_program : Part → Part → ℕ → Answer → List ℕ → Part
+abbrev pub second_after_program : Part → Part → ℕ → PartAnswer → List ℕ → Part
 second_after_program p q b r x = second_after p q b r (appended q (b - length p.blocks) x)
 
 -- The two parts after an erase of block b of the pair that was answered r.
-abbrev pub first_after_erase : Part → ℕ → Answer → Part
+abbrev pub first_after_erase : Part → ℕ → PartAnswer → Part
 first_after_erase p b r = first_after p b r (erased p b)
 
-abbrev pub second_after_erase : Part → Part → ℕ → Answer → Part
+abbrev pub second_after_erase : Part → Part → ℕ → PartAnswer → Part
 second_after_erase p q b r = second_after p q b r (erased q (b - length p.blocks))

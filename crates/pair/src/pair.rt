@@ -1,10 +1,10 @@
 // The pair itself. It finds the part that has the block, and lowers both parts to the smaller endurance.
 ghost use Rattle.std.specs.Prelude.{◌≡◌, length};
-ghost use Rattle.flash.specs.Part.{Sound, content};
+ghost use Rattle.flash.specs.Part.{Sound, page_bytes};
 ghost use Rattle.flash.specs.Answers.{program_answer, read_answer, erase_answer, if_accepted, after_program, after_erase};
 
 use crate::place::Place;
-use flash::{Flash, MOST_BLOCKS, Refusal};
+use flash::{Flash, MOST_BLOCKS, PartRefusal};
 
 #[derive(Drop)]
 pub struct Pair<F, G> {
@@ -114,42 +114,42 @@ impl<F: Flash, G: Flash> Flash for Pair<F, G> {
 
     // `first` and `second` say what the two parts show afterwards, also of blocks that the pair does not show: only the one block's part changes.
     #[tactic(auto, using(crate::proofs::Calls::page_steps))]
-    fn program(&mut self, block: usize, page: usize, bytes: &[u8; 256]) -> Result<(), Refusal>
+    fn program(&mut self, block: usize, page: usize, bytes: &[u8; 256]) -> Result<(), PartRefusal>
         ensures answer { result ≡ program_answer (shown F.shows G.shows self.old) block page }
         ensures after { shown F.shows G.shows self.new ≡ after_program result (shown F.shows G.shows self.old) block bytes.now }
         ensures first { F.shows self.new.first ≡ first_after_program (F.shows self.old.first) block result bytes.now }
         ensures second { G.shows self.new.second ≡ second_after_program (F.shows self.old.first) (G.shows self.old.second) block result bytes.now }
     {
-        match self.place(block).ok_or(Refusal::NoSuchPage)? {
+        match self.place(block).ok_or(PartRefusal::NoSuchPage)? {
             Place::First(under) => self.first.program(under, page, bytes),
             Place::Second(under) => self.second.program(under, page, bytes),
         }
     }
 
     #[tactic(auto, using(crate::proofs::Calls::page_steps))]
-    fn read(&mut self, block: usize, page: usize, buffer: &mut [u8; 256]) -> Result<(), Refusal>
+    fn read(&mut self, block: usize, page: usize, buffer: &mut [u8; 256]) -> Result<(), PartRefusal>
         ensures answer { result ≡ read_answer (shown F.shows G.shows self.old) block page }
-        ensures buffer { buffer.new ≡ if_accepted result (content (shown F.shows G.shows self.old) block page) buffer.old }
+        ensures buffer { buffer.new ≡ if_accepted result (page_bytes (shown F.shows G.shows self.old) block page) buffer.old }
         ensures after { shown F.shows G.shows self.new ≡ shown F.shows G.shows self.old }
         ensures first { F.shows self.new.first ≡ F.shows self.old.first }
         ensures second { G.shows self.new.second ≡ G.shows self.old.second }
     {
-        match self.place(block).ok_or(Refusal::NoSuchPage)? {
+        match self.place(block).ok_or(PartRefusal::NoSuchPage)? {
             Place::First(under) => self.first.read(under, page, buffer),
             Place::Second(under) => self.second.read(under, page, buffer),
         }
     }
 
     #[tactic(auto, using(crate::proofs::Calls::erase_steps))]
-    fn erase(&mut self, block: usize) -> Result<(), Refusal>
+    fn erase(&mut self, block: usize) -> Result<(), PartRefusal>
         ensures answer { result ≡ erase_answer (shown F.shows G.shows self.old) block }
         ensures after { shown F.shows G.shows self.new ≡ after_erase result (shown F.shows G.shows self.old) block }
         ensures first { F.shows self.new.first ≡ first_after_erase (F.shows self.old.first) block result }
         ensures second { G.shows self.new.second ≡ second_after_erase (F.shows self.old.first) (G.shows self.old.second) block result }
     {
-        let place = self.place(block).ok_or(Refusal::NoSuchPage)?;
+        let place = self.place(block).ok_or(PartRefusal::NoSuchPage)?;
         if self.erases(block) >= self.endurance() {
-            return Err(Refusal::WornOut);
+            return Err(PartRefusal::EnduranceReached);
         }
         match place {
             Place::First(under) => self.first.erase(under),

@@ -2,13 +2,13 @@
 ghost use Rattle.std.specs.Prelude.{◌≡◌};
 ghost use Rattle.parts_tests.specs.Numbers.{answer_by_number};
 
-use flash::{Flash, Refusal};
+use flash::{Flash, PartRefusal};
 
 // The answer, with the number of a refusal for the refusal.
-pub(crate) fn by_number(answer: Result<(), Refusal>) -> Result<(), u8>
+pub(crate) fn by_number(answer: Result<(), PartRefusal>) -> Result<(), u8>
     ensures value { result ≡ answer_by_number answer }
 {
-    answer.map_err(Refusal::number)
+    answer.map_err(PartRefusal::number)
 }
 
 // The answers of a part with `blocks` clean blocks of `pages` pages: a block too far in each call, a page too far, a page out

@@ -1,9 +1,9 @@
 // The window itself. It adds to the block number, and checks that the block is one it shows.
 ghost use Rattle.std.specs.Prelude.{◌≡◌, ◌+◌, ◌≤◌, length};
-ghost use Rattle.flash.specs.Part.{Sound, content};
+ghost use Rattle.flash.specs.Part.{Sound, page_bytes};
 ghost use Rattle.flash.specs.Answers.{program_answer, read_answer, erase_answer, if_accepted, after_program, after_erase};
 
-use flash::{Flash, Refusal};
+use flash::{Flash, PartRefusal};
 
 #[derive(Drop)]
 pub struct Window<F> {
@@ -86,35 +86,35 @@ impl<F: Flash> Flash for Window<F> {
     // numbers. `below` says what the hidden blocks are afterwards: untouched,
     // as only the one block below changes.
     #[tactic(auto, using(crate::proofs::Seen::seen_appended))]
-    fn program(&mut self, block: usize, page: usize, bytes: &[u8; 256]) -> Result<(), Refusal>
+    fn program(&mut self, block: usize, page: usize, bytes: &[u8; 256]) -> Result<(), PartRefusal>
         ensures answer { result ≡ program_answer (shown F.shows self.old) block page }
         ensures after { shown F.shows self.new ≡ after_program result (shown F.shows self.old) block bytes.now }
         ensures stays { self.new ≡ record self.old { below = self.new.below } }
         ensures below { F.shows self.new.below ≡ after_program result (F.shows self.old.below) (self.old.hidden + block) bytes.now }
     {
-        let under = self.beneath(block).ok_or(Refusal::NoSuchPage)?;
+        let under = self.beneath(block).ok_or(PartRefusal::NoSuchPage)?;
         self.below.program(under, page, bytes)
     }
 
-    fn read(&mut self, block: usize, page: usize, buffer: &mut [u8; 256]) -> Result<(), Refusal>
+    fn read(&mut self, block: usize, page: usize, buffer: &mut [u8; 256]) -> Result<(), PartRefusal>
         ensures answer { result ≡ read_answer (shown F.shows self.old) block page }
-        ensures buffer { buffer.new ≡ if_accepted result (content (shown F.shows self.old) block page) buffer.old }
+        ensures buffer { buffer.new ≡ if_accepted result (page_bytes (shown F.shows self.old) block page) buffer.old }
         ensures after { shown F.shows self.new ≡ shown F.shows self.old }
         ensures stays { self.new ≡ record self.old { below = self.new.below } }
         ensures below { F.shows self.new.below ≡ F.shows self.old.below }
     {
-        let under = self.beneath(block).ok_or(Refusal::NoSuchPage)?;
+        let under = self.beneath(block).ok_or(PartRefusal::NoSuchPage)?;
         self.below.read(under, page, buffer)
     }
 
     #[tactic(auto, using(crate::proofs::Seen::seen_erased))]
-    fn erase(&mut self, block: usize) -> Result<(), Refusal>
+    fn erase(&mut self, block: usize) -> Result<(), PartRefusal>
         ensures answer { result ≡ erase_answer (shown F.shows self.old) block }
         ensures after { shown F.shows self.new ≡ after_erase result (shown F.shows self.old) block }
         ensures stays { self.new ≡ record self.old { below = self.new.below } }
         ensures below { F.shows self.new.below ≡ after_erase result (F.shows self.old.below) (self.old.hidden + block) }
     {
-        let under = self.beneath(block).ok_or(Refusal::NoSuchPage)?;
+        let under = self.beneath(block).ok_or(PartRefusal::NoSuchPage)?;
         self.below.erase(under)
     }
 }
