@@ -1,4 +1,7 @@
 // What a call answers.
+ghost use Rattle.std.specs.Prelude.{◌≡◌};
+ghost use Rattle.rules.specs.Answers.{is_refusal};
+
 use crate::kind::Kind;
 use crate::refusal::Refusal;
 
@@ -31,3 +34,10 @@ pub enum Reply {
 
 // A reply, or why the call is refused.
 pub type Answer = Result<Reply, Refusal>;
+
+// Is an answer a refusal?
+pub fn is_refusal(answer: &Answer) -> bool
+    ensures value { result ≡ is_refusal answer.now }
+{
+    answer.is_err()
+}

@@ -1,4 +1,7 @@
 // A call of a run.
+ghost use Rattle.std.specs.Prelude.{◌≡◌};
+ghost use Rattle.rules.specs.Recorded.{call_of};
+ghost use Rattle.rules.specs.Promise.{is_host};
 
 // One call with its arguments.
 #[derive(Drop)]
@@ -14,4 +17,13 @@ pub enum Call {
     Usage,
     // The length of the buffer.
     Save(usize),
+}
+
+impl Call {
+    // Reads, writes and trims are the host's calls.
+    pub fn is_host(&self) -> bool
+        ensures value { result ≡ is_host (call_of self.now) }
+    {
+        matches!(self, Call::Write(..) | Call::Read(..) | Call::Trim(_))
+    }
 }
