@@ -38,12 +38,7 @@ plain_after m (save len) = m
 -- Is a call a write? Only a write may find the flash worn out: a read and a trim need no room on it.
 abbrev pub is_write : Call → Bool
 is_write (write n x) = true
-is_write (read n len) = false
-is_write (trim n) = false
-is_write collect = false
-is_write scan = false
-is_write usage = false
-is_write (save len) = false
+is_write _ = false
 
 -- A call with its answer is as the page map has it: a write refused with 3 and nothing changed, or answered and changed as above.
 abbrev pub Plain : List (Option Bytes) → Call → Answer → List (Option Bytes) → Type 0
