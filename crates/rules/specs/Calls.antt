@@ -11,6 +11,7 @@ use Rattle.rules.specs.Numbers.{refusal_number}
 use Rattle.rules.specs.State.{Bytes, Entry, State, no_page, tally, block_count, per_block, flash_pages, host_pages, content, in_use, is_dead, hotness, is_clean, is_closed, is_part_written, clean_blocks, in_use_at, live_in, live_pages, dead_pages, unwritten_pages, held}
 use Rattle.rules.specs.Tables.{repoint, EntryFor, lifted, merged, next_page, programmed, moved_to, erased_block}
 use Rattle.rules.specs.Store.{Entered, Offers}
+use Rattle.rules.specs.Devices.{Device, OnDevice}
 
 -- Some block is part-written.
 abbrev pub HasPartWritten : State → Type 0
@@ -130,9 +131,10 @@ abbrev pub Reads : State → ℕ → ℕ → Result Bytes Refusal → State → 
 Reads s n len (Ok x) t = (t ≡ s) × (n < host_pages s) × (len ≡ 256) × (held s n ≡ Some x)
 Reads s n len (Err e) t = (t ≡ s) × (NoHostPage s n e ⊎ (WrongLength s n len e ⊎ EmptyPage s n len e))
 
--- Read with the bytes of the buffer, all of them before and after: the page where it answers, and what was there where it refuses.
-abbrev pub ReadsInto : State → ℕ → Bytes → Result Bytes Refusal → State → Bytes → Type 0
-ReadsInto s n before r t after = Reads s n (length before) r t × (after ≡ result_unwrap_or r before)
+-- Read on any device, with the bytes of the buffer, all of them before and after: the page where it answers, and what was there
+-- where it refuses.
+abbrev pub ReadsInto : Device → ℕ → Bytes → Result Bytes Refusal → Device → Bytes → Type 0
+ReadsInto d n before r d' after = OnDevice (λ s r t. Reads s n (length before) r t) d r d' × (after ≡ result_unwrap_or r before)
 
 -- Trim empties host page n, and answers 1 if it had content, else 0; or it refuses.
 abbrev pub Trims : State → ℕ → Result ℕ Refusal → State → Type 0

@@ -9,11 +9,6 @@ pub data Device : Type 0 where
   made : State → Device
   unmade : Refusal → Part → Device
 
--- What the part of a device shows. Dismount hands the flash back, and this is what it shows then.
-abbrev pub part_of : Device → Part
-part_of (made s) = s.part
-part_of (unmade e p) = p
-
 -- A call on any device, where `rule` is the call's on a made one. A made device obeys it, from its state to the state after. An
 -- unmade one answers the refusal of its making to every call, and stays what it is, its part as it was.
 abbrev pub OnDevice : {X : Type 0} → (State → Result X Refusal → State → Type 0) → Device → Result X Refusal → Device → Type 0

@@ -3,8 +3,8 @@ pub mod Words
 pub mod State
 pub mod Tables
 pub mod Store
-pub mod Calls
 pub mod Devices
+pub mod Calls
 pub mod Making
 pub mod Stands
 pub mod Image

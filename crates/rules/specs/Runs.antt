@@ -10,6 +10,7 @@ use Rattle.rules.specs.State.{Bytes, State, block_count, per_block, host_pages}
 use Rattle.rules.specs.Calls.{Writes, ReadsInto, Trims, Collects, Scans, Asks}
 use Rattle.rules.specs.Image.{image_length}
 use Rattle.rules.specs.Devices.{Device, OnDevice}
+use Rattle.rules.specs.Devices.Device.{made}
 use Rattle.rules.specs.Making.{Made}
 
 -- A call with its arguments: a write has its bytes, a read and a save the length of their buffer.
@@ -35,23 +36,23 @@ abbrev pub Leaves : Result ℕ Refusal → Bytes → Bytes → Type 0
 Leaves (Ok size) before after = (length after ≡ length before) × (drop size after ≡ drop size before)
 Leaves (Err e) before after = after ≡ before
 
--- Save with the bytes of the buffer, all of them before and after.
-abbrev pub SavesInto : State → Bytes → Result ℕ Refusal → State → Bytes → Type 0
-SavesInto s before r t after = Saves s (length before) r t × Leaves r before after
+-- Save on any device, with the bytes of the buffer, all of them before and after.
+abbrev pub SavesInto : Device → Bytes → Result ℕ Refusal → Device → Bytes → Type 0
+SavesInto d before r d' after = OnDevice (λ s r t. Saves s (length before) r t) d r d' × Leaves r before after
 
 -- A call on some buffer of this length.
-abbrev pub WithBuffer : {X : Type 0} → (Bytes → Result X Refusal → State → Bytes → Type 0) → ℕ → Result X Refusal → State → Type 0
-WithBuffer rule len r t = (before : Bytes) × (after : Bytes) × (length before ≡ len) × rule before r t after
+abbrev pub WithBuffer : {X : Type 0} → (Bytes → Result X Refusal → Device → Bytes → Type 0) → ℕ → Result X Refusal → Device → Type 0
+WithBuffer rule len r d = (before : Bytes) × (after : Bytes) × (length before ≡ len) × rule before r d after
 
 -- One call: in state s it may answer a and leave state t. A recorded read or save has the length of its buffer, and the buffer any bytes.
 abbrev pub Step : (Bytes → ℕ) → State → Call → Answer → State → Type 0
 Step print s (write n x) a t = (r : Result Written Refusal) × (a ≡ answer_of Wrote r) × Writes print s n x r t
-Step print s (read n len) a t = (r : Result Bytes Refusal) × (a ≡ answer_of Page r) × WithBuffer (ReadsInto s n) len r t
+Step print s (read n len) a t = (r : Result Bytes Refusal) × (a ≡ answer_of Page r) × WithBuffer (ReadsInto (made s) n) len r (made t)
 Step print s (trim n) a t = (r : Result ℕ Refusal) × (a ≡ answer_of Number r) × Trims s n r t
 Step print s collect a t = (r : Result ℕ Refusal) × (a ≡ answer_of Number r) × Collects s r t
 Step print s scan a t = (r : Result ℕ Refusal) × (a ≡ answer_of Number r) × Scans s r t
 Step print s usage a t = (r : Result Usage Refusal) × (a ≡ answer_of Used r) × Asks s r t
-Step print s (save len) a t = (r : Result ℕ Refusal) × (a ≡ answer_of Number r) × WithBuffer (SavesInto s) len r t
+Step print s (save len) a t = (r : Result ℕ Refusal) × (a ≡ answer_of Number r) × WithBuffer (SavesInto (made s)) len r (made t)
 
 -- One call on a device, made or not: it may answer a and leave device d'.
 abbrev pub DeviceStep : (Bytes → ℕ) → Device → Call → Answer → Device → Type 0
