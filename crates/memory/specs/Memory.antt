@@ -19,7 +19,7 @@ memory_of m pages endurance = part_in m (pages_of pages) (endurance_of endurance
 
 -- The part that a memory part shows.
 abbrev pub shown_by : MemoryPart → Part
-shown_by part = part_in part.bytes.now part.limits.pages part.limits.endurance
+shown_by part = memory_of part.bytes.now part.limits.pages part.limits.endurance
 
 -- The memory in which xs stands from i on, and every other byte is as it was.
 abbrev pub put : List ℕ → ℕ → List ℕ → List ℕ

@@ -3,7 +3,7 @@ ghost use Rattle.std.specs.Prelude.{◌≡◌, ◌+◌, ◌<◌, ◌≤◌, leng
 ghost use Rattle.std.specs.Option.{SomeIff};
 ghost use Rattle.std.specs.Result.{OkIff};
 ghost use Rattle.flash.specs.declared.refusal.PartRefusal.TheVariants.{NoSuchPage};
-ghost use Rattle.memory.specs.Layout.{record_size, record_count, record_at};
+ghost use Rattle.memory.specs.Layout.{pages_of, record_size, record_count, record_at};
 ghost use Rattle.memory.specs.Memory.{shown_by, made_fresh};
 
 use crate::memory_part::MemoryPart;
@@ -26,14 +26,14 @@ pub(crate) const ERASED: u8 = 255;
 impl<'a> MemoryPart<'a> {
     // The bytes of a record.
     pub(crate) fn record_size(&self) -> usize
-        ensures value { result ≡ record_size self.now.limits.pages }
+        ensures value { result ≡ record_size (pages_of self.now.limits.pages) }
     {
-        HEADER + PAGE * self.limits.pages
+        HEADER + PAGE * self.limits.counted_pages()
     }
 
     // How many whole records the memory holds, up to the most that count.
     pub(crate) fn record_count(&self) -> usize
-        ensures value { result ≡ record_count self.now.bytes.now self.now.limits.pages }
+        ensures value { result ≡ record_count self.now.bytes.now (pages_of self.now.limits.pages) }
     {
         (self.bytes.len() / self.record_size()).min(MOST_BLOCKS)
     }
@@ -41,8 +41,8 @@ impl<'a> MemoryPart<'a> {
     // Where the record of the block begins, if there is one. With `then` the proof did not close.
     #[tactic(auto, using(crate::proofs::Shown::record_shown))]
     pub(crate) fn record(&self, block: usize) -> Option<usize>
-        ensures place { SomeIff result (block < length (shown_by self.now).blocks) (record_at self.now.limits.pages block) }
-        ensures within { IfSome result (λ at. at + record_size self.now.limits.pages ≤ length self.now.bytes.now) }
+        ensures place { SomeIff result (block < length (shown_by self.now).blocks) (record_at (pages_of self.now.limits.pages) block) }
+        ensures within { IfSome result (λ at. at + record_size (pages_of self.now.limits.pages) ≤ length self.now.bytes.now) }
     {
         if block < self.blocks() {
             Some(block * self.record_size())
@@ -53,12 +53,12 @@ impl<'a> MemoryPart<'a> {
 
     // Where the record of the block begins, if it has the page. With `filter` the proof did not close.
     pub(crate) fn record_with_page(&self, block: usize, page: usize) -> Result<usize, PartRefusal>
-        ensures place { OkIff result ((block < length (shown_by self.now).blocks) × (page < (shown_by self.now).per_block)) (record_at self.now.limits.pages block) }
-        ensures within { IfOk result (λ at. at + record_size self.now.limits.pages ≤ length self.now.bytes.now) }
+        ensures place { OkIff result ((block < length (shown_by self.now).blocks) × (page < (shown_by self.now).per_block)) (record_at (pages_of self.now.limits.pages) block) }
+        ensures within { IfOk result (λ at. at + record_size (pages_of self.now.limits.pages) ≤ length self.now.bytes.now) }
         ensures refusal { IsOkUnless result NoSuchPage }
     {
         match self.record(block) {
-            Some(record) if page < self.limits.pages => Ok(record),
+            Some(record) if page < self.limits.counted_pages() => Ok(record),
             _ => Err(PartRefusal::NoSuchPage),
         }
     }
@@ -73,7 +73,7 @@ impl<'a> MemoryPart<'a> {
 
     // Makes every record that of a block never written nor erased.
     pub(crate) fn make_fresh(&mut self)
-        ensures bytes { self.new.bytes.now ≡ made_fresh self.old.bytes.now self.old.limits.pages }
+        ensures bytes { self.new.bytes.now ≡ made_fresh self.old.bytes.now (pages_of self.old.limits.pages) }
         ensures limits { self.new.limits ≡ self.old.limits }
     {
         let size = self.record_size();

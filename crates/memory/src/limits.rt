@@ -4,6 +4,7 @@ ghost use Rattle.memory.specs.Layout.{pages_of, endurance_of};
 
 use flash::{MOST_ENDURANCE, MOST_PAGES_PER_BLOCK};
 
+// The two numbers as they were asked for.
 #[derive(Clone, Copy)]
 pub(crate) struct Limits {
     pub(crate) pages: usize,
@@ -11,14 +12,17 @@ pub(crate) struct Limits {
 }
 
 impl Limits {
-    // The numbers asked for, as far as a part may have them.
-    pub(crate) fn new(pages: usize, endurance: u32) -> Self
-        ensures pages { result.pages ≡ pages_of pages }
-        ensures endurance { result.endurance ≡ endurance_of endurance }
+    // The pages of a block, as far as a part may have them.
+    pub(crate) fn counted_pages(self) -> usize
+        ensures value { result ≡ pages_of self.pages }
     {
-        Limits {
-            pages: pages.clamp(1, MOST_PAGES_PER_BLOCK),
-            endurance: endurance.min(MOST_ENDURANCE),
-        }
+        self.pages.clamp(1, MOST_PAGES_PER_BLOCK)
+    }
+
+    // The erases that a block endures, as far as a part may last.
+    pub(crate) fn counted_endurance(self) -> u32
+        ensures value { result ≡ endurance_of self.endurance }
+    {
+        self.endurance.min(MOST_ENDURANCE)
     }
 }

@@ -1,34 +1,31 @@
 // A part in memory that the caller lends and gets back.
-ghost use Rattle.std.specs.Prelude.{◌≡◌, ◌≤◌};
+ghost use Rattle.std.specs.Prelude.{◌≡◌};
 ghost use Rattle.memory.specs.Layout.{pages_of, endurance_of, record_count};
 
 use crate::layout::{ERASED, ERASES, HEADER, PAGE, WRITTEN};
 use crate::limits::Limits;
 use flash::{Flash, PartRefusal};
 
-// The bounds stand here: in `Limits`, beside the `&mut`, code that has this part as a type argument, as a pair or a window of it, would get no proof.
+// Holds the numbers that it was asked for, and brings them within their limits where they are read. With a ghost field for them beside the
+// `&mut`, code that takes a part by value, or has two in an array, would get no proof.
 #[derive(Drop)]
 pub struct MemoryPart<'a> {
     pub(crate) bytes: &'a mut [u8],
     pub(crate) limits: Limits,
-    ghost some: { 1 ≤ limits.pages },
-    ghost few: { limits.pages ≤ 64 },
-    ghost lasting: { limits.endurance ≤ 1000000 },
 }
 
 impl<'a> MemoryPart<'a> {
     ghost use Rattle.memory.specs.Memory.{shown_by, memory_of, made_fresh, clean_part};
 
-    // Makes the memory a part with no page written and no block erased. Pages and endurance are any two numbers; `Limits` has only those that count.
+    // Makes the memory a part with no page written and no block erased.
     #[tactic(auto, using(crate::proofs::Clean::shown_clean))]
     pub fn fresh(bytes: &'a mut [u8], pages: usize, endurance: u32) -> Self
         ensures bytes { result.bytes.now ≡ made_fresh bytes.old (pages_of pages) }
-        ensures pages { result.limits.pages ≡ pages_of pages }
-        ensures endurance { result.limits.endurance ≡ endurance_of endurance }
+        ensures pages { result.limits.pages ≡ pages }
+        ensures endurance { result.limits.endurance ≡ endurance }
         ensures clean { shown_by result ≡ clean_part (record_count bytes.old (pages_of pages)) (pages_of pages) (endurance_of endurance) }
     {
-        let limits = Limits::new(pages, endurance);
-        let mut part = MemoryPart { bytes, limits };
+        let mut part = Self::attach(bytes, pages, endurance);
         part.make_fresh();
         part
     }
@@ -36,13 +33,13 @@ impl<'a> MemoryPart<'a> {
     // Takes the memory as the part that it already holds.
     pub fn attach(bytes: &'a mut [u8], pages: usize, endurance: u32) -> Self
         ensures bytes { result.bytes.now ≡ bytes.old }
-        ensures pages { result.limits.pages ≡ pages_of pages }
-        ensures endurance { result.limits.endurance ≡ endurance_of endurance }
+        ensures pages { result.limits.pages ≡ pages }
+        ensures endurance { result.limits.endurance ≡ endurance }
         ensures shown { shown_by result ≡ memory_of bytes.old pages endurance }
     {
         MemoryPart {
             bytes,
-            limits: Limits::new(pages, endurance),
+            limits: Limits { pages, endurance },
         }
     }
 
@@ -67,11 +64,11 @@ impl<'a> Flash for MemoryPart<'a> {
     }
 
     fn pages_per_block(&self) -> usize {
-        self.limits.pages
+        self.limits.counted_pages()
     }
 
     fn endurance(&self) -> u32 {
-        self.limits.endurance
+        self.limits.counted_endurance()
     }
 
     // Here and in `erases` the proof did not close with `map_or`.
@@ -80,7 +77,7 @@ impl<'a> Flash for MemoryPart<'a> {
         let Some(record) = self.record(block) else {
             return 0;
         };
-        usize::from(u16::from_le_bytes(self.bytes_at(record))).min(self.limits.pages)
+        usize::from(u16::from_le_bytes(self.bytes_at(record))).min(self.limits.counted_pages())
     }
 
     #[tactic(auto, using(crate::proofs::Shown::read_erases))]
@@ -88,14 +85,14 @@ impl<'a> Flash for MemoryPart<'a> {
         let Some(record) = self.record(block) else {
             return 0;
         };
-        u32::from_le_bytes(self.bytes_at(record + ERASES)).min(self.limits.endurance)
+        u32::from_le_bytes(self.bytes_at(record + ERASES)).min(self.limits.counted_endurance())
     }
 
     // `limits` stands on each call for a reader of the bytes; `after` comes to the same, as what is shown has both numbers.
     fn program(&mut self, block: usize, page: usize, bytes: &[u8; 256]) -> Result<(), PartRefusal>
         ensures answer { result ≡ program_answer (shown_by self.old) block page }
         ensures after { shown_by self.new ≡ after_program result (shown_by self.old) block bytes.now }
-        ensures memory { self.new.bytes.now ≡ if_accepted result (page_programmed self.old.bytes.now self.old.limits.pages block page bytes.now) self.old.bytes.now }
+        ensures memory { self.new.bytes.now ≡ if_accepted result (page_programmed self.old.bytes.now (pages_of self.old.limits.pages) block page bytes.now) self.old.bytes.now }
         ensures limits { self.new.limits ≡ self.old.limits }
     {
         let record = self.record_with_page(block, page)?;
@@ -127,12 +124,12 @@ impl<'a> Flash for MemoryPart<'a> {
     fn erase(&mut self, block: usize) -> Result<(), PartRefusal>
         ensures answer { result ≡ erase_answer (shown_by self.old) block }
         ensures after { shown_by self.new ≡ after_erase result (shown_by self.old) block }
-        ensures memory { self.new.bytes.now ≡ if_accepted result (wiped self.old.bytes.now self.old.limits.pages block) self.old.bytes.now }
+        ensures memory { self.new.bytes.now ≡ if_accepted result (wiped self.old.bytes.now (pages_of self.old.limits.pages) block) self.old.bytes.now }
         ensures limits { self.new.limits ≡ self.old.limits }
     {
         let record = self.record(block).ok_or(PartRefusal::NoSuchPage)?;
         let erases = self.erases(block);
-        if erases >= self.limits.endurance {
+        if erases >= self.limits.counted_endurance() {
             return Err(PartRefusal::EnduranceReached);
         }
         let end = record + self.record_size();

@@ -1,5 +1,6 @@
 use Rattle.std.proofs.Common.{◌∙◌, ap, arith}
-use Rattle.memory.specs.Memory.{part_in}
+use Rattle.memory.specs.Layout.{pages_of, endurance_of}
+use Rattle.memory.specs.Memory.{memory_of}
 use Rattle.memory.proofs.Shown.{program_writes, shown_appended}
 use Rattle.memory.proofs.memory_part.MemoryPartFlash.program.Goals as goal
 
@@ -11,6 +12,6 @@ returns-clause-memory c =
 pub returns-clause-after : goal.returns-clause-after
 returns-clause-after c =
     let p = c.args.self.now in
-    ap (λ m. part_in m p.limits.pages p.limits.endurance) (returns-clause-memory c)
-    ∙ shown_appended p.bytes.now p.limits.pages p.limits.endurance c.args.block c.in_ok-record.ensures.place.0.0 _ _
-    p.few c.in_ok-record.ensures.place.0.1 c.told-bytes (omega arith)
+    ap (λ m. memory_of m p.limits.pages p.limits.endurance) (returns-clause-memory c)
+    ∙ shown_appended p.bytes.now (pages_of p.limits.pages) (endurance_of p.limits.endurance) c.args.block c.in_ok-record.ensures.place.0.0 _ _
+    (omega arith) c.in_ok-record.ensures.place.0.1 c.told-bytes (omega arith)
