@@ -107,7 +107,7 @@ impl<F: Flash, G: Flash> Flash for Pair<F, G> {
         let own = match self.place(block) {
             Some(Place::First(under)) => self.first.erases(under),
             Some(Place::Second(under)) => self.second.erases(under),
-            None => 0,
+            None => return 0,
         };
         own.min(self.endurance())
     }
@@ -148,12 +148,12 @@ impl<F: Flash, G: Flash> Flash for Pair<F, G> {
         ensures second { G.shows self.new.second ≡ second_after_erase (F.shows self.old.first) (G.shows self.old.second) block result }
     {
         let place = self.place(block).ok_or(PartRefusal::NoSuchPage)?;
-        if self.erases(block) >= self.endurance() {
-            return Err(PartRefusal::EnduranceReached);
-        }
+        let limit = self.endurance();
+        // The count of the block's own part: the pair's `erases` would look the block up again.
         match place {
-            Place::First(under) => self.first.erase(under),
-            Place::Second(under) => self.second.erase(under),
+            Place::First(under) if self.first.erases(under) < limit => self.first.erase(under),
+            Place::Second(under) if self.second.erases(under) < limit => self.second.erase(under),
+            _ => Err(PartRefusal::EnduranceReached),
         }
     }
 }
