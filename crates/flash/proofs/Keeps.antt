@@ -14,7 +14,7 @@ pub block_other : (p : Part) (b c : ℕ) (new : Block) → (c ≡ b → ⊥) →
 block_other p b c new ne = get_or-set_other p.blocks b c new no_block ne
 
 -- A well-formed block in place of another keeps the part well-formed.
-sound_put : (p : Part) (b : ℕ) (new : Block)
+pub sound_put : (p : Part) (b : ℕ) (new : Block)
     → b < length p.blocks → SoundBlock p.per_block p.endurance new → Sound p → Sound (with_block p b new)
 sound_put p b new h s w = record {
   each = λ c l. ⊎_elim

@@ -1,3 +1,4 @@
+pub mod Accepted
 pub mod Blank
 pub mod Clean
 pub mod Counts

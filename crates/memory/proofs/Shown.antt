@@ -2,7 +2,7 @@
 use Rattle.std.proofs.Common.{◌≡◌, ℕ, ◌+◌, ◌-◌, ◌*◌, ◌/◌, ◌<◌, ◌≤◌, min, List, [], ◌∷◌, ◌++◌, map, length, get_or, take, drop, replicate, sym, ap, ◌∙◌, subst, arith}
 use Rattle.std.specs.List.{range_with_len}
 use Rattle.std.proofs.lemmas.List.FromFn.{length-map-range_with_len, get_or-map-range_with_len, map-range_with_len_more}
-use Rattle.std.proofs.lemmas.List.{length-take, length-drop, length-replicate}
+use Rattle.std.proofs.lemmas.List.{length-take, length-drop, length-replicate, get_or_past}
 use Rattle.flash.specs.Part.{Block, Sound, SoundBlock, no_block, block, written, erases, page_bytes, with_block, appended, erased}
 use borrow.Rule.Slice.PartMut.{put_mid}
 use Rattle.std.specs.Int.{w16, w32, from_le_bytes}
@@ -25,6 +25,10 @@ record_shown m P W b h = record_inside m P b (omega (arith, shown_count m P W))
 pub shown_block : (m : List ℕ) (P W b : ℕ) → b < record_count m P
     → block (part_in m P W) b ≡ block_in m P W b
 shown_block m P W b h = get_or-map-range_with_len _ 0 (record_count m P) b b no_block h (omega arith)
+
+-- A block that is not shown counts as having no page and no erase.
+pub unshown_block : (m : List ℕ) (P W b : ℕ) → length (part_in m P W).blocks ≤ b → block (part_in m P W) b ≡ no_block
+unshown_block m P W b out = get_or_past _ b no_block out
 
 module _ (m : List ℕ) (P W b : ℕ) (h : b < record_count m P) where
   -- It has as many written pages as the count in its record says.

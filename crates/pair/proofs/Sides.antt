@@ -1,9 +1,9 @@
 -- Each block of a pair is one of the first part or one of the second, lowered.
-use Rattle.std.proofs.Common.{◌≡◌, ℕ, ◌+◌, ◌-◌, ◌<◌, Bool, true, false, min, cond, eqb, List, [], ◌++◌, map, length, get_or, take, set, refl, ⊎_elim, arith}
+use Rattle.std.proofs.Common.{◌≡◌, ℕ, ◌+◌, ◌-◌, ◌<◌, ◌≤◌, Bool, true, false, min, cond, eqb, List, [], ◌++◌, map, length, get_or, take, set, refl, ⊎_elim, arith}
 use Rattle.std.proofs.Math.Seq.{take-set-lt}
 use Rattle.std.proofs.Math.ListN.{get_or-map}
 use Rattle.std.proofs.lemmas.Bool.{cases_lt}
-use Rattle.std.proofs.lemmas.List.{length-take, length-map, length-append, get_or-take, get_or_append_left, get_or-append-add, set-append_left, set-append_right, map-set}
+use Rattle.std.proofs.lemmas.List.{length-take, length-map, length-append, get_or-take, get_or_append_left, get_or-append-add, set-append_left, set-append_right, map-set, get_or_past}
 use Rattle.std.proofs.lemmas.Grind.{common_steps}
 use Rattle.flash.specs.Part.{Block, Part, SoundBlock, Sound, no_block, block, with_block}
 use Rattle.pair.specs.Shown.{lowered, counted, lesser, pair_of, shown_count}
@@ -75,6 +75,10 @@ module _ (p q : Part) (b c : ℕ) (few : b < 255) (l : c < length (counted p q))
       let f = set-append_right p.blocks (counted p q) (length p.blocks) b new refl (omega arith) in
       let own : c ≡ b - length p.blocks = omega arith in
       let k = counted_set (eqb p.per_block q.per_block) q.blocks c new in cc
+
+-- A block that is not shown counts as having no page and no erase.
+pub unseen_block : (p q : Part) (b : ℕ) → length (pair_of p q).blocks ≤ b → block (pair_of p q) b ≡ no_block
+unseen_block p q b out = get_or_past _ b no_block out
 
 -- A well-formed block stays so when it is lowered.
 lowered_sound : (per e w : ℕ) (x : Block) → SoundBlock per e x → SoundBlock per w (lowered w x)

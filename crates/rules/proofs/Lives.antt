@@ -9,7 +9,7 @@ use Rattle.rules.specs.State.{Bytes, State, live_pages, page_map}
 use Rattle.rules.specs.Calls.{Asks}
 use Rattle.rules.specs.Stands.{Stands}
 use Rattle.rules.specs.Answers.{Answer, answer_of}
-use Rattle.rules.specs.Runs.{Call, Run}
+use Rattle.rules.specs.Runs.{Call, Run, Life}
 use Rattle.rules.specs.Runs.Call.{write, read, trim, collect, scan, usage, save}
 use Rattle.rules.specs.Promise.{seen, is_host, host_calls, SameAnswers, stored_and_moved, settled_from, Promise}
 use Rattle.rules.specs.Promise.Seen.{refused}
@@ -94,6 +94,10 @@ same_answers print print' (k ∷ hs) ks s u t v h h' same (s₁, step, run) run'
     (same_answers print print' hs ks s₁ u t v o.standing h'
     (other_call k.0 k.1 (page_map s) (page_map s₁) off o.plain ∙ same) run run'))
     (cases_Bool (is_host k.0))
+
+-- Every life ends in a state that stands.
+pub life_stands : (l : Life) → Stands l.print l.end
+life_stands l = (run_keeps l.print l.start l.history l.end (made_stands l.print l.start l.made) l.ran).standing
 
 -- A usage question is answered with the pages in use.
 usage_asked : (s : State) (r : Result Usage Refusal) (a : Answer) (t : State) → a ≡ answer_of Used r → Asks s r t

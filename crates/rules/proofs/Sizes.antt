@@ -5,15 +5,21 @@ use Rattle.rules.specs.Making.{size_refusal}
 
 pub record Sizes (blocks pages host : ℕ) : Type 0 where
   pub two : 2 ≤ blocks
+  pub blocks_most : blocks ≤ 255
   pub one : 1 ≤ pages
+  pub pages_most : pages ≤ 64
   pub all : blocks * pages ≤ 4095
+  pub host_one : 1 ≤ host
   pub host_most : host + 1 ≤ (blocks - 1) * pages
 
 pub sizes_fit : (blocks pages host : ℕ) → size_refusal blocks pages host ≡ 0 → Sizes blocks pages host
 sizes_fit blocks pages host e = record {
   two = grind (arith, nat_tests, e);
+  blocks_most = grind (arith, nat_tests, e);
   one = grind (arith, nat_tests, e);
+  pages_most = grind (arith, nat_tests, e);
   all = grind (arith, nat_tests, e);
+  host_one = grind (arith, nat_tests, e);
   host_most = grind (arith, nat_tests, e);
 }
 

@@ -1,5 +1,6 @@
 -- Every rule keeps what stands, answers as a plain page map, and wears the flash by what it answers.
-use Rattle.std.proofs.Common.{◌≡◌, ℕ, ◌+◌, ◌<◌, Bool, true, cond, eqb, ◌⊎◌, length, set, is_some, Some, None, Ok, Err, Result, sym, refl, ap, ◌∙◌, subst, inl, inr, arith}
+use Rattle.std.proofs.Common.{◌≡◌, ℕ, ◌+◌, ◌<◌, ◌≤◌, Bool, true, cond, eqb, ltb, ◌⊎◌, length, set, is_some, Some, None, Ok, Err, Result, sym, refl, ap, ◌∙◌, subst, inl, inr, arith}
+use Rattle.std.proofs.lemmas.Bool.{lt-ltb, le-ltb, cond-true, cond-false}
 use Rattle.std.proofs.lemmas.Bool.Decides.{nat_tests}
 use Rattle.flash.specs.Part.{Part, written, appended, wear}
 use Rattle.rules.specs.declared.refusal.Refusal.{Refusal}
@@ -39,6 +40,14 @@ pub record Outcome (print : Bytes → ℕ) (s : State) (c : Call) (a : Answer) (
   pub plain : Plain (page_map s) c a (page_map t)
   pub worn : wear t.part ≡ wear s.part + (stored_by c a + moved_by c a)
   pub exact : (so : Bool) → (so ≡ true → Exact s) → settled_by so c a ≡ true → Exact t
+
+-- The tests of the plain page map on a host page that is there and one that is not.
+module _ (s : State) (n : ℕ) where
+  pub there : {X : Type 0} (x y : X) → n < host_pages s → cond (ltb n (length (page_map s))) x y ≡ x
+  there x y l = cond-true (ltb n (length (page_map s))) x y (lt-ltb n (length (page_map s)) (omega (arith, l, map_length s)))
+
+  pub missing : {X : Type 0} (x y : X) → host_pages s ≤ n → cond (ltb n (length (page_map s))) x y ≡ y
+  missing x y h = cond-false (ltb n (length (page_map s))) x y (le-ltb n (length (page_map s)) (omega (arith, h, map_length s)))
 
 -- A call that changes nothing.
 idle : (print : Bytes → ℕ) (s : State) (c : Call) (a : Answer) (t : State) → Stands print s → t ≡ s
