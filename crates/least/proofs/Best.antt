@@ -13,7 +13,7 @@ use denote.Param.Members.{Mut}
 -- A numbered record is its place in a list, and what `read` reads the record from.
 module _ {R X : Type 0} (read : R → X) (at_most : X → X → Bool) (total : (x y : X) → at_most x y ≡ false → at_most y x ≡ true) (transitive : (x y z : X) → at_most x y ≡ true → at_most y z ≡ true → at_most x z ≡ true) where
   -- The first of two is below the second: the second is not at most the first.
-  abbrev below : ℕ × R → ℕ × R → Bool
+  abbrev pub below : ℕ × R → ℕ × R → Bool
   below p q = not (at_most (read q.1) (read p.1))
 
   -- Each record's number is its place.

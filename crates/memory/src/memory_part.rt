@@ -7,7 +7,7 @@ use crate::limits::Limits;
 use flash::{Flash, PartRefusal};
 
 // Holds the numbers that it was asked for, and brings them within their limits where they are read. With a ghost field for them beside the
-// `&mut`, code that takes a part by value, or has two in an array, would get no proof.
+// `&mut`, code that takes a part by value to call it or to pass it on, or has two in an array, would get no proof.
 #[derive(Drop)]
 pub struct MemoryPart<'a> {
     pub(crate) bytes: &'a mut [u8],

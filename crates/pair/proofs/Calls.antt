@@ -1,6 +1,7 @@
 -- A call on a block of a pair answers, and leaves, what the same call on the block of its part does.
-use Rattle.std.proofs.Common.{◌≡◌, ℕ, ◌+◌, ◌<◌, List, length, Ok, Err, arith}
+use Rattle.std.proofs.Common.{◌≡◌, ℕ, ◌+◌, ◌<◌, ◌≤◌, List, length, Ok, Err, arith}
 use Rattle.std.proofs.lemmas.Grind.{common_steps}
+use Rattle.flash.specs.declared.refusal.PartRefusal.TheVariants.{EnduranceReached}
 use Rattle.flash.specs.Part.{Part, erases, appended, erased}
 use Rattle.flash.specs.Answers.{PartAnswer, if_page, erase_answer, if_accepted}
 use Rattle.pair.specs.Shown.{counted, lesser, pair_of}
@@ -34,6 +35,11 @@ erase_first p q b few l left = grind (arith, common_steps, block_first, pair_cou
 pub erase_second : (p q : Part) (b c : ℕ) → b < 255 → c < length (counted p q) → b ≡ length p.blocks + c
     → erases (pair_of p q) b < lesser p q → erase_answer (pair_of p q) b ≡ erase_answer q c
 erase_second p q b c few l is left = grind (arith, common_steps, block_second, pair_count, pair_endurance, counted_inside)
+
+-- .. is refused where it does ..
+pub erase_worn : (p q : Part) (b : ℕ) → b < length (pair_of p q).blocks → lesser p q ≤ erases (pair_of p q) b
+    → erase_answer (pair_of p q) b ≡ Err EnduranceReached
+erase_worn p q b shown worn = grind (arith, common_steps, pair_endurance)
 
 -- .. and leaves what one of the pair's block leaves.
 pub erased_first : (p q z : Part) (b c : ℕ) (r : PartAnswer) → b < 255 → b < length p.blocks → c ≡ b

@@ -34,7 +34,7 @@ pub entry_left : (q : ℕ) (store : List (Option Entry)) (k : ℕ) (e : Entry) �
 entry_left q store k e is = without_some q (entry_at store k) e (sym (entry_mapped (without q) store k refl) ∙ is)
 
 -- What letting go of the value w leaves has P, if each of the four things that w may have been leaves something that has it.
-let_go_has : (s : State) (w : ℕ) (P : State → Type 0) → (w ≡ no_page → P s) → (w < no_page → P (dies s w))
+pub let_go_has : (s : State) (w : ℕ) (P : State → Type 0) → (w ≡ no_page → P s) → (w < no_page → P (dies s w))
     → (4096 ≤ w → (n : ℕ) × (n < host_pages s) × (names s n ≡ w) → P s)
     → (4096 ≤ w → ((n : ℕ) → n < host_pages s → names s n ≡ w → ⊥) → P (dies (with_shared s (w - 4096) no_page) (names s w)))
     → P (let_go s w)
