@@ -88,7 +88,7 @@ impl<'a> Flash for MemoryPart<'a> {
         u32::from_le_bytes(self.bytes_at(record + ERASES)).min(self.limits.counted_endurance())
     }
 
-    // `limits` stands on each call for a reader of the bytes; `after` comes to the same, as what is shown has both numbers.
+    // `limits` says that the numbers asked for stay; it stands on each call, as what is shown has them only within their limits.
     fn program(&mut self, block: usize, page: usize, bytes: &[u8; 256]) -> Result<(), PartRefusal>
         ensures answer { result ≡ program_answer (shown_by self.old) block page }
         ensures after { shown_by self.new ≡ after_program result (shown_by self.old) block bytes.now }
